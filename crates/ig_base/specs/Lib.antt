@@ -1,2 +1,4 @@
 pub mod Numbers
 pub mod formers
+pub mod Hashes
+pub mod Frames

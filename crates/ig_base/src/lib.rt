@@ -7,6 +7,8 @@
 //! Contracts see [`Text`], [`Octets`] and [`Items`] as lists, so that a tree of them is plain data.
 #![tactic(auto)]
 
+mod frames;
+mod hashes;
 mod items;
 mod memory;
 mod nodes;
@@ -14,9 +16,14 @@ mod numbers;
 mod octets;
 mod text;
 
+pub use frames::{frame_is_read, one_cut};
+pub use hashes::text_hash;
 pub use items::Items;
 pub use memory::{NoMemory, NoRoom};
 pub use nodes::{NodeId, Topology};
 pub use numbers::{get_i16, get_i32, get_i64, put_i16, put_i32, put_i64};
 pub use octets::Octets;
 pub use text::Text;
+
+#[cfg(test)]
+mod tests;

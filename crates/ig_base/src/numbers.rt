@@ -1,6 +1,6 @@
 //! Little-endian numbers in a run of bytes.
 
-ghost use Rattle.std.specs.Prelude.{◌≡◌, ◌+◌, ◌<◌, ◌++◌, ◌↔◌, length, take, drop, IsNone, IfSome, OnOk, OnErr};
+ghost use Rattle.std.specs.Prelude.{◌≡◌, ◌+◌, ◌<◌, ◌++◌, ◌↔◌, length, take, drop, ℤ, FitsSigned, IsNone, IfSome, OnOk, OnErr};
 ghost use Rattle.std.specs.Int.{w16, w32, w64};
 ghost use Rattle.ig_base.specs.Numbers.{LE, number_at};
 
@@ -12,6 +12,7 @@ use crate::octets::Octets;
 pub fn get_i16(bytes: &[u8], at: usize) -> Option<i16>
     ensures none { IsNone result ↔ (length bytes.now < at + 2) }
     ensures spelled { IfSome result (λ n. LE w16 n ≡ take 2 (drop at bytes.now)) }
+    ensures read { (z : ℤ) → FitsSigned w16 z → LE w16 z ≡ take 2 (drop at bytes.now) → result ≡ Some z }
     ensures exact { result ≡ number_at w16 bytes.now at }
 {
     match bytes.get(at..)? {
@@ -25,6 +26,7 @@ pub fn get_i16(bytes: &[u8], at: usize) -> Option<i16>
 pub fn get_i32(bytes: &[u8], at: usize) -> Option<i32>
     ensures none { IsNone result ↔ (length bytes.now < at + 4) }
     ensures spelled { IfSome result (λ n. LE w32 n ≡ take 4 (drop at bytes.now)) }
+    ensures read { (z : ℤ) → FitsSigned w32 z → LE w32 z ≡ take 4 (drop at bytes.now) → result ≡ Some z }
     ensures exact { result ≡ number_at w32 bytes.now at }
 {
     match bytes.get(at..)? {
@@ -38,6 +40,7 @@ pub fn get_i32(bytes: &[u8], at: usize) -> Option<i32>
 pub fn get_i64(bytes: &[u8], at: usize) -> Option<i64>
     ensures none { IsNone result ↔ (length bytes.now < at + 8) }
     ensures spelled { IfSome result (λ n. LE w64 n ≡ take 8 (drop at bytes.now)) }
+    ensures read { (z : ℤ) → FitsSigned w64 z → LE w64 z ≡ take 8 (drop at bytes.now) → result ≡ Some z }
     ensures exact { result ≡ number_at w64 bytes.now at }
 {
     match bytes.get(at..)? {
@@ -54,7 +57,7 @@ pub fn put_i16(out: &mut Octets, n: i16) -> Result<(), NoMemory>
     ensures ok { OnOk result (out.new ≡ out.old ++ LE w16 n) }
     ensures err { OnErr result (out.new ≡ out.old) }
 {
-    out.append(&n.to_le_bytes())
+    out.append(&i16::to_le_bytes(n))
 }
 
 /// Appends the four bytes of an Int32.
@@ -63,7 +66,7 @@ pub fn put_i32(out: &mut Octets, n: i32) -> Result<(), NoMemory>
     ensures ok { OnOk result (out.new ≡ out.old ++ LE w32 n) }
     ensures err { OnErr result (out.new ≡ out.old) }
 {
-    out.append(&n.to_le_bytes())
+    out.append(&i32::to_le_bytes(n))
 }
 
 /// Appends the eight bytes of an Int64.
@@ -72,5 +75,5 @@ pub fn put_i64(out: &mut Octets, n: i64) -> Result<(), NoMemory>
     ensures ok { OnOk result (out.new ≡ out.old ++ LE w64 n) }
     ensures err { OnErr result (out.new ≡ out.old) }
 {
-    out.append(&n.to_le_bytes())
+    out.append(&i64::to_le_bytes(n))
 }

@@ -1,0 +1,76 @@
+-- Frames, and how a stream falls into them.
+use Rattle.std.specs.Prelude.{◌≡◌, ℕ, ◌-◌, ◌≤◌, ◌≤ℤ◌, ℤ, pos, negsuc, List, [], ◌∷◌, ◌++◌, length, take, drop, nat_lt, nat_le, ◌&&◌, Option, None, Some, if◌then◌else◌}
+use Rattle.std.specs.Int.{w32}
+use Rattle.std.specs.List.{flat_map, AllByRecursion}
+use Rattle.ig_base.specs.Numbers.{LE, number_at}
+
+-- the greatest length of a body
+abbrev pub max_body : ℕ
+max_body = 8388608
+
+-- a length, and that many bytes, the body
+unfoldable pub Frame : List ℕ → List ℕ
+Frame body = LE w32 (pos (length body)) ++ body
+
+-- the least lengths of the bodies that one side sends: of its first, and of each other
+pub record Side : Type 0 where
+  pub first : ℕ
+  pub later : ℕ
+
+-- a client sends a hello and then requests
+abbrev pub client : Side
+client = record { first = 8; later = 10 }
+
+-- the least length of the body after these
+abbrev pub least_after : Side → List (List ℕ) → ℕ
+least_after side [] = side.first
+least_after side (body ∷ bodies) = side.later
+
+-- a body whose length is in range
+pub record IsBody (least : ℕ) (body : List ℕ) : Type 0 where
+  pub least_length : least ≤ length body
+  pub greatest_length : length body ≤ max_body
+
+-- the bodies that one side sends, from its first on
+abbrev pub AreBodies : Side → List (List ℕ) → Type 0
+AreBodies side [] = Unit {0}
+AreBodies side (body ∷ bodies) = IsBody side.first body × AllByRecursion (IsBody side.later) bodies
+
+-- the input is the frames of these bodies laid end to end, and then the rest
+pub record Begins (side : Side) (input : List ℕ) (bodies : List (List ℕ)) (rest : List ℕ) : Type 0 where
+  pub whole : input ≡ flat_map Frame bodies ++ rest
+  pub each : AreBodies side bodies
+
+-- What bytes begin with: a whole frame, given as its body and what follows; a length out of range; or less
+-- than a whole frame, with the number of bytes missing to the end of the length, or of the frame.
+pub data Front : Type 0 where
+  Body : List ℕ → List ℕ → Front
+  Bad : ℤ → Front
+  Part : ℕ → Front
+
+-- behind a length in range
+abbrev pub front_sized : ℕ → List ℕ → Front
+front_sized n bytes = if nat_lt (length bytes) n then Part (n - length bytes) else Body (take n bytes) (drop n bytes)
+
+abbrev pub front_from : ℕ → List ℕ → Option ℤ → Front
+front_from least bytes None = Part (4 - length bytes)
+front_from least bytes (Some (pos n)) = if nat_le least n && nat_le n max_body then front_sized n (drop 4 bytes) else Bad (pos n)
+front_from least bytes (Some (negsuc n)) = Bad (negsuc n)
+
+unfoldable pub front : ℕ → List ℕ → Front
+front least bytes = front_from least bytes (number_at w32 bytes 0)
+
+-- no body has this length
+abbrev pub IsOutOfRange : ℕ → ℤ → Type 0
+IsOutOfRange least n = pos least ≤ℤ n → n ≤ℤ pos max_body → ⊥
+
+-- no whole frame is there
+abbrev pub IsCut : Front → Type 0
+IsCut (Body body rest) = ⊥
+IsCut (Bad n) = Unit {0}
+IsCut (Part missing) = Unit {0}
+
+-- these are all the whole frames of the input, and the rest begins with none
+pub record Cut (side : Side) (input : List ℕ) (bodies : List (List ℕ)) (rest : List ℕ) : Type 0 where
+  pub begins : Begins side input bodies rest
+  pub ends : IsCut (front (least_after side bodies) rest)

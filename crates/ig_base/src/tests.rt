@@ -1,0 +1,93 @@
+use super::*;
+use std::test::Fail;
+
+/// Each number with its bytes, lowest first.
+#[test]
+fn numbers_both_ways(rt: HostRuntime) -> Result<(), Fail> {
+    let shorts: [(i16, [u8; 2]); 4] = [
+        (0, [0, 0]),
+        (1, [1, 0]),
+        (-2, [0xFE, 0xFF]),
+        (0x1234, [0x34, 0x12]),
+    ];
+    for (n, bytes) in &shorts {
+        let mut out = Octets::empty(rt.alloc());
+        put_i16(&mut out, *n)?;
+        assert!(rt; out.as_slice() == bytes.as_slice());
+        assert_eq!(rt; get_i16(bytes, 0), Some(*n));
+        assert_eq!(rt; get_i16(bytes, 1), None);
+    }
+    let ints: [(i32, [u8; 4]); 4] = [
+        (1, [1, 0, 0, 0]),
+        (-1, [0xFF, 0xFF, 0xFF, 0xFF]),
+        (3_343_801, [0xB9, 0x05, 0x33, 0x00]),
+        (i32::MIN, [0, 0, 0, 0x80]),
+    ];
+    for (n, bytes) in &ints {
+        let mut out = Octets::empty(rt.alloc());
+        put_i32(&mut out, *n)?;
+        assert!(rt; out.as_slice() == bytes.as_slice());
+        assert_eq!(rt; get_i32(bytes, 0), Some(*n));
+        assert_eq!(rt; get_i32(bytes, 1), None);
+    }
+    let longs: [(i64, [u8; 8]); 3] = [
+        (7, [7, 0, 0, 0, 0, 0, 0, 0]),
+        (-2, [0xFE, 0xFF, 0xFF, 0xFF, 0xFF, 0xFF, 0xFF, 0xFF]),
+        (0x0102_0304_0506_0708, [8, 7, 6, 5, 4, 3, 2, 1]),
+    ];
+    for (n, bytes) in &longs {
+        let mut out = Octets::empty(rt.alloc());
+        put_i64(&mut out, *n)?;
+        assert!(rt; out.as_slice() == bytes.as_slice());
+        assert_eq!(rt; get_i64(bytes, 0), Some(*n));
+        assert_eq!(rt; get_i64(bytes, 1), None);
+    }
+    Ok(())
+}
+
+/// A number is read at any place at which it lies wholly in the bytes, and at no other.
+#[test]
+fn places(rt: HostRuntime) {
+    let bytes: [u8; 6] = [9, 1, 0, 0, 0, 9];
+    assert_eq!(rt; get_i32(&bytes, 1), Some(1));
+    assert_eq!(rt; get_i32(&bytes, 2), Some(0x0900_0000));
+    assert_eq!(rt; get_i32(&bytes, 3), None);
+    assert_eq!(rt; get_i32(&bytes, 7), None);
+    assert_eq!(rt; get_i64(&bytes, 0), None);
+    assert_eq!(rt; get_i16(&bytes, usize::MAX), None);
+}
+
+/// Hashes that Java's `String` has, one of a text outside the basic plane.
+#[test]
+fn hashes(rt: HostRuntime) {
+    let table: [(&str, i32); 5] = [
+        ("", 0),
+        ("a", 97),
+        ("main", 3_343_801),
+        ("\u{1F600}", 1_772_899),
+        ("polygenelubricants", i32::MIN),
+    ];
+    for (text, hash) in &table {
+        assert_eq!(rt; text_hash(text), *hash);
+    }
+}
+
+/// What is made of std's types is given back as it was.
+#[test]
+fn given_back(rt: HostRuntime) -> Result<(), Fail> {
+    let mut octets = Octets::new(Vec::from_slice(rt.alloc(), &[1, 2])?);
+    octets.push(3)?;
+    octets.append(&[4, 5])?;
+    assert_eq!(rt; octets.len(), 5);
+    assert!(rt; octets.as_slice() == [1, 2, 3, 4, 5].as_slice());
+    octets.clear();
+    assert!(rt; octets.is_empty());
+    assert_eq!(rt; octets.into_std().len(), 0);
+    let text = Text::new(String::from_str(rt.alloc(), "main")?);
+    assert!(rt; text.as_str() == "main");
+    assert!(rt; text.into_std().as_str() == "main");
+    let items = Items::new(Vec::from_slice(rt.alloc(), &[7u64, 8])?);
+    assert!(rt; items.as_slice() == [7, 8].as_slice());
+    assert_eq!(rt; items.into_std().len(), 2);
+    Ok(())
+}
