@@ -1,0 +1,31 @@
+-- How a link in memory keeps its script.
+use Rattle.std.specs.Prelude.{◌≡◌, true, ◌+◌, ◌≤◌, List, length, drop, vec_len, vec_capacity}
+use Rattle.ig_link.specs.declared.mem_link.ReadStep.{ReadStep}
+use Rattle.ig_link.specs.declared.mem_link.MemLink.TheInside.{Inside}
+use Rattle.ig_link.specs.Steps.{Script, bytes_of}
+use Rattle.ig_link.specs.MemLinkSteps.{trimmed}
+
+abbrev pub reads_left : Inside → List ReadStep
+reads_left m = trimmed m.offset (drop m.next_read m.reads.items)
+
+abbrev pub script : Inside → Script
+script m = record {
+  room = m.room;
+  reads = reads_left m;
+  writes = drop m.next_write m.writes.items;
+  taken = m.taken.items;
+  written = m.written.items;
+  overrun = m.overrun;
+  read_faults = m.read_faults;
+  write_faults = m.write_faults;
+  ended = m.ended;
+}
+
+-- there is room for all bytes that are still to be taken, and for those that are kept when they are written
+pub record IsPrepared (m : Inside) : Type 0 where
+  pub reads_within : m.next_read ≤ length m.reads.items
+  pub writes_within : m.next_write ≤ length m.writes.items
+  pub at_end : m.ended ≡ true → length m.reads.items ≤ m.next_read
+  pub taken_room : vec_len m.taken + length (bytes_of (reads_left m)) ≤ vec_capacity m.taken
+  pub written_room : m.room ≤ vec_capacity m.written
+  pub written_within : vec_len m.written ≤ m.room

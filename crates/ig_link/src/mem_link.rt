@@ -1,0 +1,306 @@
+//! A link in memory that follows a script.
+
+ghost use Rattle.std.specs.Prelude.{◌≡◌, ◌<◌, ◌≤◌, ◌+◌, ◌++◌, ℕ, List, [], false, true, vec_len, vec_capacity, length, take, drop, min, IfOk, IfSome, MatchOption, OnSome, IsNone, IsTrue, ◌↔◌};
+ghost use Rattle.ig_link.specs.Steps.{bytes_of, behind_empty};
+ghost use Rattle.ig_link.specs.MemLinkSteps.{trimmed};
+
+use crate::ends::{Duplex, Gave, Sink, Source, Take};
+use ig_base::{NoMemory, Octets};
+use std::alloc::Global;
+use std::marker::Model;
+
+/// A step of a script's reads.
+#[derive(Debug, Drop)]
+pub enum ReadStep {
+    /// These bytes come, in as many reads as it takes.
+    Bytes(Octets),
+    /// A read fails.
+    Fault,
+}
+
+/// A step of a script's writes.
+#[derive(Clone, Copy, Debug, PartialEq, Eq)]
+pub enum WriteStep {
+    /// A write takes at most this many bytes, where 0 counts as 1.
+    AtMost(usize),
+    /// A write fails.
+    Fault,
+}
+
+/// A link in memory. Its steps are used in order; behind the last read step it ends, and behind the
+/// last write step it takes every piece whole. It tells what was taken, and what was written until
+/// that was more than it has room for.
+#[derive(Drop)]
+pub struct MemLink {
+    reads: Vec<ReadStep>,
+    next_read: usize,
+    offset: usize,
+    writes: Vec<WriteStep>,
+    next_write: usize,
+    taken: Vec<u8>,
+    written: Vec<u8>,
+    room: usize,
+    overrun: bool,
+    read_faults: u64,
+    write_faults: u64,
+    ended: bool,
+}
+
+impl Model for MemLink {
+    ghost use Rattle.ig_link.specs.Steps.{Script};
+
+    ghost Value = { Script };
+
+    ghost use Rattle.ig_link.specs.MemLink.{script, IsPrepared};
+
+    ghost view = { script };
+
+    ghost invariant = { IsPrepared };
+}
+
+/// The bytes from a place on, none where it is past the end.
+fn bytes_from(bytes: &[u8], at: usize) -> &[u8]
+    ensures { result.now ≡ drop at bytes.now }
+{
+    if at < bytes.len() { &bytes[at..] } else { &[] }
+}
+
+/// Copies as many bytes as fit to the front of a buffer.
+fn copy_some(bytes: &[u8], buf: &mut [u8]) -> usize
+    ensures count { result ≡ min (length bytes.now) (length buf.old) }
+    ensures copied { take result buf.new ≡ take result bytes.now }
+{
+    let n = bytes.len().min(buf.len());
+    buf[..n].copy_from_slice(&bytes[..n]);
+    n
+}
+
+/// The place of the first step that gives something or fails, and how much of it is gone.
+fn next_place(reads: &[ReadStep], next: usize, offset: usize) -> (usize, usize)
+    requires { next ≤ length reads.now }
+    ensures within { result.0 ≤ length reads.now }
+    ensures later { next ≤ result.0 }
+    ensures steps { trimmed result.1 (drop result.0 reads.now) ≡ behind_empty (trimmed offset (drop next reads.now)) }
+{
+    let mut next = next;
+    let mut offset = offset;
+    while next < reads.len() {
+        match &reads[next] {
+            ReadStep::Bytes(bytes) if offset >= bytes.len() => {
+                next += 1;
+                offset = 0;
+            }
+            _ => break,
+        }
+    }
+    (next, offset)
+}
+
+/// Keeps what was written, as long as there is room for all of it.
+fn keep(written: &mut Vec<u8>, overrun: &mut bool, room: usize, piece: &[u8])
+    requires prepared { room ≤ vec_capacity written.old }
+    requires within { vec_len written.old ≤ room }
+    ensures kept { overrun.new ≡ false → (overrun.old ≡ false) × (written.new.items ≡ written.old.items ++ piece.now) }
+    ensures overrun { overrun.new ≡ true → overrun.old ≡ false → room < length written.old.items + length piece.now }
+    ensures prepared { room ≤ vec_capacity written.new }
+    ensures within { vec_len written.new ≤ room }
+{
+    if *overrun {
+        return;
+    }
+    if piece.len() > room - written.len() {
+        *overrun = true;
+        return;
+    }
+    let _ = written.extend_from_slice(piece);
+}
+
+/// How many bytes the steps give.
+fn total(reads: &[ReadStep]) -> Option<usize>
+    ensures { IfSome result (λ n. n ≡ length (bytes_of reads.now)) }
+{
+    let mut sum = 0usize;
+    for step in reads {
+        if let ReadStep::Bytes(bytes) = step {
+            sum = sum.checked_add(bytes.len())?;
+        }
+    }
+    Some(sum)
+}
+
+impl MemLink {
+    ghost use Rattle.std.specs.Prelude.{◌≡◌, [], IfOk, IsTrue, ◌↔◌, false, MatchOption, true};
+    ghost use Rattle.ig_link.specs.Steps.{first_script};
+
+    /// A link that follows these steps, with room for as many written bytes. It takes the room for all
+    /// bytes that it can give and for those.
+    pub fn new(
+        alloc: Global,
+        reads: Vec<ReadStep>,
+        writes: Vec<WriteStep>,
+        room: usize,
+    ) -> Result<MemLink, NoMemory>
+        ensures { IfOk result (λ link. link ≡ first_script room reads.items writes.items) }
+    {
+        let Some(all) = total(&reads) else {
+            return Err(NoMemory);
+        };
+        let taken = Vec::with_capacity(alloc, all)?;
+        let written = Vec::with_capacity(alloc, room)?;
+        Ok(MemLink {
+            reads,
+            next_read: 0,
+            offset: 0,
+            writes,
+            next_write: 0,
+            taken,
+            written,
+            room,
+            overrun: false,
+            read_faults: 0,
+            write_faults: 0,
+            ended: false,
+        })
+    }
+
+    /// The bytes that were taken.
+    pub fn taken(&self) -> &[u8]
+        ensures { result.now ≡ self.now.taken }
+    {
+        self.taken.as_slice()
+    }
+
+    /// The bytes that were written, as long as there was room for all of them.
+    pub fn written(&self) -> Option<&[u8]>
+        ensures { MatchOption result (self.now.overrun ≡ true) (λ w. (self.now.overrun ≡ false) × (w.now ≡ self.now.written)) }
+    {
+        if self.overrun {
+            None
+        } else {
+            Some(self.written.as_slice())
+        }
+    }
+
+    /// How often a read failed. The count stands still at its type's end.
+    pub fn read_faults(&self) -> u64
+        ensures { result ≡ self.now.read_faults }
+    {
+        self.read_faults
+    }
+
+    /// How often a write failed. The count stands still at its type's end.
+    pub fn write_faults(&self) -> u64
+        ensures { result ≡ self.now.write_faults }
+    {
+        self.write_faults
+    }
+}
+
+impl MemLink {
+    ghost use Rattle.std.specs.Prelude.{◌<◌, ◌≤◌, ◌-◌, ◌^◌, length};
+    ghost use Rattle.ig_link.specs.Steps.{ReadsStep, WritesStep};
+
+    /// The next read of the script.
+    fn follow_read(&mut self, buf: &mut [u8]) -> Take
+        requires { 0 < length buf.old }
+        ensures { ReadsStep result self.old self.new buf.new }
+    {
+        (self.next_read, self.offset) = next_place(&self.reads, self.next_read, self.offset);
+        match self.reads.get(self.next_read) {
+            None => {
+                self.ended = true;
+                Take::End
+            }
+            Some(ReadStep::Fault) => {
+                self.next_read += 1;
+                self.offset = 0;
+                self.read_faults = self.read_faults.saturating_add(1);
+                Take::Failed
+            }
+            Some(ReadStep::Bytes(bytes)) => {
+                let left = bytes_from(bytes.as_slice(), self.offset);
+                let n = copy_some(left, buf);
+                let _ = self.taken.extend_from_slice(&left[..n]);
+                self.offset += n;
+                Take::Bytes(n)
+            }
+        }
+    }
+}
+
+impl MemLink {
+    ghost use Rattle.std.specs.Prelude.{◌<◌, length};
+    ghost use Rattle.ig_link.specs.Steps.{WritesStep};
+
+    /// The next write of the script.
+    fn follow_write(&mut self, piece: &[u8]) -> Gave
+        requires { 0 < length piece.now }
+        ensures { WritesStep result self.old self.new piece.now }
+    {
+        match self.writes.get(self.next_write) {
+            None => {
+                keep(&mut self.written, &mut self.overrun, self.room, piece);
+                Gave::Bytes(piece.len())
+            }
+            Some(WriteStep::Fault) => {
+                self.next_write += 1;
+                self.write_faults = self.write_faults.saturating_add(1);
+                Gave::Failed
+            }
+            Some(WriteStep::AtMost(most)) => {
+                let n = (*most).max(1).min(piece.len());
+                self.next_write += 1;
+                keep(&mut self.written, &mut self.overrun, self.room, &piece[..n]);
+                Gave::Bytes(n)
+            }
+        }
+    }
+}
+
+impl Source for MemLink {
+    ghost use Rattle.std.specs.Prelude.{◌≡◌, ◌<◌, length};
+    ghost use Rattle.ig_link.specs.Calls.{ReadsAs};
+    ghost use Rattle.ig_link.specs.Steps.{script_source, script_sink, ReadsStep};
+
+    ghost source = { script_source };
+
+    ghost sink_beside = { script_sink };
+
+    fn read(&mut self, buf: &mut [u8]) -> Take
+        requires { 0 < length buf.old }
+        ensures answer { ReadsAs result (script_source self.old) (script_source self.new) buf.new }
+        ensures beside { script_sink self.new ≡ script_sink self.old }
+        // What the script says.
+        ensures step { ReadsStep result self.old self.new buf.new }
+    {
+        self.follow_read(buf)
+    }
+}
+
+impl Sink for MemLink {
+    ghost use Rattle.std.specs.Prelude.{◌≡◌, ◌<◌, length};
+    ghost use Rattle.ig_link.specs.Calls.{WritesAs};
+    ghost use Rattle.ig_link.specs.Steps.{script_source, script_sink, WritesStep};
+
+    ghost sink = { script_sink };
+
+    ghost source_beside = { script_source };
+
+    fn write(&mut self, piece: &[u8]) -> Gave
+        requires { 0 < length piece.now }
+        ensures answer { WritesAs result (script_sink self.old) (script_sink self.new) piece.now }
+        ensures beside { script_source self.new ≡ script_source self.old }
+        // What the script says.
+        ensures step { WritesStep result self.old self.new piece.now }
+    {
+        self.follow_write(piece)
+    }
+}
+
+impl Duplex for MemLink {
+    ghost use Rattle.std.specs.Prelude.{refl};
+
+    ghost reads_beside = { λ link. refl };
+
+    ghost writes_beside = { λ link. refl };
+}
