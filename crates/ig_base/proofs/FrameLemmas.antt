@@ -3,7 +3,7 @@ use Rattle.std.proofs.Common.{◌≡◌, ℕ, zero, suc, ◌+◌, ◌-◌, ◌�
 use Rattle.std.proofs.lemmas.Bool.{le-ltb, lt-ltb, le-leb, leb-true, cond-true, cond-false, cases_Bool, cases_lt, and_from, and_parts}
 use Rattle.std.proofs.lemmas.Grind.{flat_map-append}
 use Rattle.std.proofs.lemmas.Int.{ints}
-use Rattle.std.proofs.lemmas.List.{get_or-append-add, length-append, take_at, drop_at, take-append-drop}
+use Rattle.std.proofs.lemmas.List.{get_or-append-add, length-append, length-drop, drop-drop, take_at, drop_at, take-append-drop}
 use Rattle.std.specs.Prelude.{nat_lt, nat_le}
 use Rattle.std.specs.Int.{w32}
 use Rattle.std.specs.Int.RustNames.{FitsSigned}
@@ -64,6 +64,17 @@ number_found least bytes body rest (Some (pos n)) h =
           (n, refl, leb-true _ _ both.0, leb-true _ _ both.1, sym (cond-true (nat_le least n && nat_le n max_body) inside (Bad (pos n)) fits) ∙ h)
       | inr out ↦ let bad = cond-false (nat_le least n && nat_le n max_body) inside (Bad (pos n)) out in cc
     ]
+
+-- where a whole frame that is found lies
+pub front-inside : (least : ℕ) (bytes body rest : List ℕ) → front least bytes ≡ Body body rest → (4 + length body ≤ length bytes) × (drop (4 + length body) bytes ≡ rest)
+unfolding front
+front-inside least bytes body rest h =
+    let found = number_found least bytes body rest (number_at w32 bytes 0) h in
+    let within = number_at-within (pos found.0) bytes found.1 in
+    let parts = sized_reads found.0 (drop 4 bytes) body rest found.4 in (
+      omega (arith, within, ap length parts.1, length-append body rest, length-drop 4 bytes),
+      sym (drop-drop (length body) 4 bytes) ∙ ap (drop (length body)) parts.1 ∙ drop_at body rest (length body) refl,
+    )
 
 -- what is found whole is a frame of a body in range
 pub front-reads : (least : ℕ) (bytes body rest : List ℕ) → AreBytes bytes → front least bytes ≡ Body body rest → IsBody least body × (bytes ≡ Frame body ++ rest)
@@ -187,8 +198,13 @@ same_cut (body ∷ bodies) (other ∷ others) side input rest end a b =
     (cut_behind side input body bodies rest a).1 (subst (λ (l : List ℕ). Cut (again side) l others end) (sym after) tail) in
     (ap (λ b. b ∷ bodies) first ∙ ap (λ bs. other ∷ bs) both.0, both.1)
 
-rest_bytes : (xs ys : List ℕ) → AreBytes (xs ++ ys) → AreBytes ys
+pub rest_bytes : (xs ys : List ℕ) → AreBytes (xs ++ ys) → AreBytes ys
 rest_bytes xs ys are i = let same = get_or-append-add xs ys i 0 in omega (arith, same, are (length xs + i))
+
+pub append_bytes : (xs ys : List ℕ) → AreBytes xs → AreBytes ys → AreBytes (xs ++ ys)
+append_bytes [] ys front more i = more i
+append_bytes (x ∷ xs) ys front more zero = front 0
+append_bytes (x ∷ xs) ys front more (suc i) = append_bytes xs ys (λ k. front (suc k)) more i
 
 -- a cut of what follows a body is one of the whole
 cut_before : (side : Side) (body : List ℕ) (input : List ℕ) (bodies : List (List ℕ)) (rest : List ℕ) → IsBody side.first body → Cut (again side) input bodies rest

@@ -1,0 +1,11 @@
+pub mod RowLemmas
+pub mod ReplyLemmas
+pub mod HistoryLemmas
+pub mod LookLemmas
+pub mod AnswerLemmas
+pub mod StepLemmas
+pub mod DealLemmas
+pub mod ServeLemmas
+pub mod TakeLemmas
+pub mod AnswerAllLemmas
+pub mod LoopLemmas

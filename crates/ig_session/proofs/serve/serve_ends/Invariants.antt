@@ -1,0 +1,18 @@
+use Rattle.std.proofs.Common.{◌≡◌, ◌-◌, ◌<◌, ◌≤◌, vec_len}
+use Rattle.ig_session.specs.Serves.{byte_limit}
+use Rattle.ig_session.specs.Serving.{Going}
+use Rattle.ig_session.proofs.serve.serve_ends.Given as goal
+
+-- what was taken was answered
+abbrev pub invariant-pieces : goal.invariant-pieces
+invariant-pieces g l = record {
+  going : Going g.C.Caller.stands (g.C.Caller.seat l.fn.caller) l.fn.caller l.caller l.session (g.S.Source.source l.fn.source) (g.S.Source.source l.source)
+      (g.K.Sink.sink l.fn.sink) (g.K.Sink.sink l.sink) l.taken l.missing;
+  seat : g.C.Caller.seat l.caller ≡ g.C.Caller.seat l.fn.caller;
+  room : 0 < vec_len l.buf;
+  within : l.taken ≤ byte_limit;
+}
+
+-- less of the limit is left
+abbrev pub decreases-pieces : goal.decreases-pieces
+decreases-pieces g l = byte_limit - l.taken

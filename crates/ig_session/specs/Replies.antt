@@ -1,0 +1,38 @@
+-- The replies to requests.
+use Rattle.std.specs.Prelude.{ℕ, ℤ, pos, List, [], ◌++◌, codes}
+use Rattle.std.specs.Int.{w32, w64}
+use Rattle.ig_base.specs.Numbers.{LE}
+use Rattle.ig_base.specs.Frames.{Frame}
+use Rattle.ig_session.specs.Values.{spelling}
+use Rattle.ig_session.specs.Hellos.{string}
+use Rattle.ig_session.specs.declared.caches.Why.TheVariants.{NoCache}
+use Rattle.ig_session.specs.declared.caches.Outcome.{Outcome}
+use Rattle.ig_session.specs.declared.caches.Outcome.TheVariants.{Done, Found, Refused}
+use Rattle.ig_session.specs.declared.ops.Refusal.{Refusal}
+use Rattle.ig_session.specs.declared.ops.Refusal.TheVariants.{InvalidOperation, NotBuilt, NullKeyOrValue}
+
+-- what a reply shows: a result, or a status and the reason
+pub data Shown : Type 0 where
+  Result : List ℕ → Shown
+  Fault : ℤ → List ℕ → Shown
+
+abbrev pub refused : Refusal → Shown
+refused InvalidOperation = Fault (pos 2) (codes "invalid operation code")
+refused NotBuilt = Fault (pos 1) (codes "form not built")
+refused NullKeyOrValue = Fault (pos 1) (codes "null key or value")
+
+abbrev pub came_of : Outcome → Shown
+came_of Done = Result []
+came_of (Found value) = Result (spelling value)
+came_of (Refused NoCache) = Fault (pos 1000) (codes "cache does not exist")
+
+abbrev pub no_memory : Shown
+no_memory = Fault (pos 9000) (codes "no memory")
+
+-- the request's identifier, the status, and the result or the reason
+abbrev pub reply : ℤ → Shown → List ℕ
+reply id (Result bytes) = LE w64 id ++ LE w32 (pos 0) ++ bytes
+reply id (Fault status reason) = LE w64 id ++ LE w32 status ++ string reason
+
+abbrev pub reply_frame : ℤ → Shown → List ℕ
+reply_frame id shown = Frame (reply id shown)
