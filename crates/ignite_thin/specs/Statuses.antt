@@ -1,0 +1,15 @@
+-- The program's status.
+use Rattle.std.specs.Prelude.{ℕ}
+use Rattle.ig_session.specs.declared.end.SessionEnd.{SessionEnd}
+use Rattle.ig_session.specs.declared.end.SessionEnd.TheVariants as ends
+
+-- how a session ended
+abbrev pub status_of : SessionEnd → ℕ
+status_of ends.Ended = 0
+status_of (ends.Truncated missing) = 4
+status_of (ends.BadFrame place len) = 4
+status_of (ends.HelloRefused fault) = 4
+status_of ends.ReadFault = 2
+status_of ends.WriteFault = 3
+status_of ends.ByteLimit = 6
+status_of ends.NoMemory = 5
