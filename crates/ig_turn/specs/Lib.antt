@@ -1,0 +1,4 @@
+pub mod States
+pub mod History
+pub mod Rule
+pub mod Steps

@@ -1,0 +1,18 @@
+-- What contracts see of a turn and of a seat.
+use Rattle.std.specs.Prelude.{ℕ, List}
+use Rattle.atomic_table.specs.Seated.{TableId}
+use Rattle.ig_turn.specs.declared.view.Entry.{Entry}
+use Rattle.ig_turn.specs.declared.view.Ended.{Ended}
+
+pub record TurnState (X : Type 0) : Type 0 where
+  pub table : TableId
+  pub start : X
+
+pub record SeatState (X A G : Type 0) : Type 0 where
+  pub table : TableId
+  pub start : X
+  pub number : ℕ
+  pub seen : List (Entry A G)
+  pub own : List (Entry A G)
+  pub ended : List (Ended A G)
+  pub born : List ℕ
