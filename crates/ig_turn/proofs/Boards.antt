@@ -1,7 +1,7 @@
 -- What one view knows, after a step of another or of its own.
 use Rattle.std.proofs.Common.{◌≡◌, ◌≢◌, ◌⊎◌, ℕ, suc, zero, ◌+◌, ◌<◌, ◌≤◌, eqb, Bool, true, false, cond, List, [], ◌∷◌, ◌++◌, map, length, get_or, set, refl, sym, ap, ◌∙◌, subst, inl, inr, ⊎_elim, arith, eq-eqb, ne_eqb}
 use mathlib.Core.Option.{Option, some, none}
-use mathlib.Core.List.{IsPrefix}
+use mathlib.Core.List.{IsPrefix, map-append}
 use mathlib.Core.Logic.{dite}
 use native.Mathlib.Decide.{ℕ_discrete}
 use lib.ListN.{get_elem?}
@@ -245,9 +245,9 @@ module _ {A G : Type 0} where
       childless = tt;
     }
 
-    pub numbers_right : (own : ℕ) (parts : List (Ended A G)) (born : List ℕ) → ((m : ℕ) → m < seats → owner m ≢ fresh) → ((m : ℕ) → 0 < m → m < seats → parent m < m)
+    pub numbers_right : (parts : List (Ended A G)) (born : List ℕ) → ((m : ℕ) → m < seats → owner m ≢ fresh) → ((m : ℕ) → 0 < m → m < seats → parent m < m)
         → Numbers seats owner parent log id (n ∷ []) (ended n [] ∷ parts) born → Numbers seats (put owner n fresh) parent log fresh [] (ended n [] ∷ []) []
-    numbers_right own parts born unowned older k = let f = k.each.0 in record {
+    numbers_right parts born unowned older k = let f = k.each.0 in record {
       each = ((put_here owner n fresh, f.1, f.2), tt);
       different = (λ h. h, tt);
       has = λ m high is. dite (ℕ_discrete m n) (λ e. inl (sym e)) (λ other. absurd (unowned m high (sym (put_else owner n fresh m other) ∙ is)));
@@ -268,3 +268,81 @@ module _ {A G : Type 0} where
     below = tt;
     childless = tt;
   }
+
+  number_map : (xs ys : List (Ended A G)) → map number_of (xs ++ ys) ≡ map number_of xs ++ map number_of ys
+  number_map xs ys = map-append number_of xs ys
+
+  -- the numbers of the view other went to the view id
+  module _ (seats : ℕ) (owner parent : ℕ → ℕ) (log : List (Entry A G)) (id other : ℕ) (apart : other ≢ id) where
+    abbrev pub moved : ℕ → ℕ
+    moved n = cond (eqb (owner n) other) id (owner n)
+
+    moved_else : (n : ℕ) → owner n ≢ other → moved n ≡ owner n
+    moved_else n ne = ap (λ (b : Bool). cond b id (owner n)) (ne_eqb (owner n) other ne)
+
+    moved_here : (n : ℕ) → owner n ≡ other → moved n ≡ id
+    moved_here n e = ap (λ (b : Bool). cond b id (owner n)) (eq-eqb (owner n) other e)
+
+    moved_back : (j n : ℕ) → j ≢ id → moved n ≡ j → owner n ≡ j
+    moved_back j n ne is = dite (ℕ_discrete (owner n) other) (λ e. absurd (ne (sym is ∙ moved_here n e))) (λ not. sym (moved_else n not) ∙ is)
+
+    pub numbers_moved : (j : ℕ) (drawn : List ℕ) (parts : List (Ended A G)) (born : List ℕ) → j ≢ id → j ≢ other → Numbers seats owner parent log j drawn parts born
+        → Numbers seats moved parent log j drawn parts born
+    numbers_moved j drawn parts born ne ne' k = record {
+      each = each_weaker _ _ (λ e f. (moved_else e.number (λ is. ne' (sym f.0 ∙ is)) ∙ f.0, f.1, f.2)) parts k.each;
+      different = k.different;
+      has = λ n high is. k.has n high (moved_back j n ne is);
+      kin = λ n low high is. k.kin n low high (moved_back j (parent n) ne is);
+      below = k.below;
+      childless = each_weaker _ _ (λ d f. (moved_else d (λ is. ne' (sym f.0 ∙ is)) ∙ f.0, f.1)) drawn k.childless;
+    }
+
+    pub numbers_spent : Numbers seats moved parent log other [] [] []
+    numbers_spent = record {
+      each = tt;
+      different = tt;
+      has = λ n high is. gone n is;
+      kin = λ n low high is. gone (parent n) is;
+      below = tt;
+      childless = tt;
+    }
+      where
+        gone : (n : ℕ) → moved n ≡ other → {T : Type 0} → T
+        gone n is = absurd (dite (ℕ_discrete (owner n) other) (λ e. apart (sym is ∙ moved_here n e)) (λ not. not (sym (moved_else n not) ∙ is)))
+
+    kept_moved : (e : Ended A G) → (owner e.number ≡ id) × (e.number < seats) × (under e.number log ≡ e.own) → (moved e.number ≡ id) × (e.number < seats) × (under e.number log ≡ e.own)
+    kept_moved e f = (moved_else e.number (λ is. apart (sym is ∙ f.0)) ∙ f.0, f.1, f.2)
+
+    come : (e : Ended A G) → (owner e.number ≡ other) × (e.number < seats) × (under e.number log ≡ e.own) → (moved e.number ≡ id) × (e.number < seats) × (under e.number log ≡ e.own)
+    come e f = (moved_here e.number f.0, f.1, f.2)
+
+    -- the first goes behind the others
+    apart_turned : (n : ℕ) (ns : List ℕ) → Apart (n ∷ ns) → Apart (ns ++ n ∷ [])
+    apart_turned n ns a = apart_append ns (n ∷ []) a.1 (λ h. h, tt) (λ m h t. ⊎_elim (λ e. a.0 (subst (Has ns) (sym e) h)) (λ none. none) t)
+
+    has_turned : (n : ℕ) (ns : List ℕ) (m : ℕ) → Has (n ∷ ns) m → Has (ns ++ n ∷ []) m
+    has_turned n ns m h = ⊎_elim (λ e. has_right ns (n ∷ []) m (inl e)) (λ t. has_left ns (n ∷ []) m t) h
+
+    has_back : (n : ℕ) (ns : List ℕ) (m : ℕ) → Has (ns ++ n ∷ []) m → Has (n ∷ ns) m
+    has_back n ns m h = ⊎_elim (λ t. inr t) (λ t. ⊎_elim (λ e. inl e) (λ none. absurd none) t) (has_cases ns (n ∷ []) m h)
+
+    pub numbers_joined : (first last : Ended A G) (joined gained : List (Ended A G)) (born more : List ℕ)
+        → Numbers seats owner parent log id [] (first ∷ joined) born → Numbers seats owner parent log other [] (last ∷ gained) more
+        → Numbers seats moved parent log id [] (first ∷ (joined ++ (gained ++ last ∷ []))) (born ++ more)
+    numbers_joined first last joined gained born more k h = let ps : List (Ended A G) = first ∷ joined in let qs : List (Ended A G) = last ∷ gained in
+        let ns : List ℕ = map number_of gained ++ last.number ∷ [] in
+        let turned : map number_of (gained ++ last ∷ []) ≡ ns = number_map gained (last ∷ []) in
+        let all : map number_of (ps ++ (gained ++ last ∷ [])) ≡ map number_of ps ++ ns = number_map ps (gained ++ last ∷ []) ∙ ap (λ (l : List ℕ). map number_of ps ++ l) turned in record {
+          each = each_append _ ps (gained ++ last ∷ []) (each_weaker _ _ kept_moved ps k.each) (each_append _ gained (last ∷ []) (each_weaker _ _ come gained h.each.1) (come last h.each.0, tt));
+          different = subst Apart (sym all) (apart_append (map number_of ps) ns k.different (apart_turned last.number (map number_of gained) h.different)
+              (λ n a b. let x = each_has _ number_of ps n k.each a in let y = each_has _ number_of qs n h.each (has_back last.number (map number_of gained) n b) in
+              apart (sym y.1.0 ∙ (ap owner (y.2 ∙ sym x.2) ∙ x.1.0))));
+          has = λ n high is. subst (λ (l : List ℕ). Has l n) (sym all) (dite (ℕ_discrete (owner n) other)
+              (λ e. has_right (map number_of ps) ns n (has_turned last.number (map number_of gained) n (h.has n high e)))
+              (λ not. has_left (map number_of ps) ns n (k.has n high (sym (moved_else n not) ∙ is))));
+          kin = λ n low high is. dite (ℕ_discrete (owner (parent n)) other)
+              (λ e. has_right born more n (h.kin n low high e))
+              (λ not. has_left born more n (k.kin n low high (sym (moved_else (parent n) not) ∙ is)));
+          below = each_append _ born more k.below h.below;
+          childless = tt;
+        }
