@@ -26,6 +26,10 @@ put_here f k x = ap (λ (b : Bool). cond b x (f k)) (eq-eqb k k refl)
 pub put_else : (f : ℕ → ℕ) (k x n : ℕ) → n ≢ k → put f k x n ≡ f n
 put_else f k x n ne = ap (λ (b : Bool). cond b x (f n)) (ne_eqb n k ne)
 
+-- what was at other is at id
+abbrev pub moved : (ℕ → ℕ) → ℕ → ℕ → ℕ → ℕ
+moved owner id other n = cond (eqb (owner n) other) id (owner n)
+
 module _ {V : Type 0} where
   pub views_set : (K : ℕ → V → Type 0) (vs : List V) (id : ℕ) (w : V) → K id w → ((j : ℕ) (v : V) → j ≢ id → get_elem? vs j ≡ some v → K j v)
       → (j : ℕ) (v : V) → get_elem? (set vs id w) j ≡ some v → K j v
@@ -274,20 +278,17 @@ module _ {A G : Type 0} where
 
   -- the numbers of the view other went to the view id
   module _ (seats : ℕ) (owner parent : ℕ → ℕ) (log : List (Entry A G)) (id other : ℕ) (apart : other ≢ id) where
-    abbrev pub moved : ℕ → ℕ
-    moved n = cond (eqb (owner n) other) id (owner n)
-
-    moved_else : (n : ℕ) → owner n ≢ other → moved n ≡ owner n
+    moved_else : (n : ℕ) → owner n ≢ other → moved owner id other n ≡ owner n
     moved_else n ne = ap (λ (b : Bool). cond b id (owner n)) (ne_eqb (owner n) other ne)
 
-    moved_here : (n : ℕ) → owner n ≡ other → moved n ≡ id
+    moved_here : (n : ℕ) → owner n ≡ other → moved owner id other n ≡ id
     moved_here n e = ap (λ (b : Bool). cond b id (owner n)) (eq-eqb (owner n) other e)
 
-    moved_back : (j n : ℕ) → j ≢ id → moved n ≡ j → owner n ≡ j
+    moved_back : (j n : ℕ) → j ≢ id → moved owner id other n ≡ j → owner n ≡ j
     moved_back j n ne is = dite (ℕ_discrete (owner n) other) (λ e. absurd (ne (sym is ∙ moved_here n e))) (λ not. sym (moved_else n not) ∙ is)
 
     pub numbers_moved : (j : ℕ) (drawn : List ℕ) (parts : List (Ended A G)) (born : List ℕ) → j ≢ id → j ≢ other → Numbers seats owner parent log j drawn parts born
-        → Numbers seats moved parent log j drawn parts born
+        → Numbers seats (moved owner id other) parent log j drawn parts born
     numbers_moved j drawn parts born ne ne' k = record {
       each = each_weaker _ _ (λ e f. (moved_else e.number (λ is. ne' (sym f.0 ∙ is)) ∙ f.0, f.1, f.2)) parts k.each;
       different = k.different;
@@ -297,7 +298,7 @@ module _ {A G : Type 0} where
       childless = each_weaker _ _ (λ d f. (moved_else d (λ is. ne' (sym f.0 ∙ is)) ∙ f.0, f.1)) drawn k.childless;
     }
 
-    pub numbers_spent : Numbers seats moved parent log other [] [] []
+    pub numbers_spent : Numbers seats (moved owner id other) parent log other [] [] []
     numbers_spent = record {
       each = tt;
       different = tt;
@@ -307,13 +308,13 @@ module _ {A G : Type 0} where
       childless = tt;
     }
       where
-        gone : (n : ℕ) → moved n ≡ other → {T : Type 0} → T
+        gone : (n : ℕ) → moved owner id other n ≡ other → {T : Type 0} → T
         gone n is = absurd (dite (ℕ_discrete (owner n) other) (λ e. apart (sym is ∙ moved_here n e)) (λ not. not (sym (moved_else n not) ∙ is)))
 
-    kept_moved : (e : Ended A G) → (owner e.number ≡ id) × (e.number < seats) × (under e.number log ≡ e.own) → (moved e.number ≡ id) × (e.number < seats) × (under e.number log ≡ e.own)
+    kept_moved : (e : Ended A G) → (owner e.number ≡ id) × (e.number < seats) × (under e.number log ≡ e.own) → (moved owner id other e.number ≡ id) × (e.number < seats) × (under e.number log ≡ e.own)
     kept_moved e f = (moved_else e.number (λ is. apart (sym is ∙ f.0)) ∙ f.0, f.1, f.2)
 
-    come : (e : Ended A G) → (owner e.number ≡ other) × (e.number < seats) × (under e.number log ≡ e.own) → (moved e.number ≡ id) × (e.number < seats) × (under e.number log ≡ e.own)
+    come : (e : Ended A G) → (owner e.number ≡ other) × (e.number < seats) × (under e.number log ≡ e.own) → (moved owner id other e.number ≡ id) × (e.number < seats) × (under e.number log ≡ e.own)
     come e f = (moved_here e.number f.0, f.1, f.2)
 
     -- the first goes behind the others
@@ -328,7 +329,7 @@ module _ {A G : Type 0} where
 
     pub numbers_joined : (first last : Ended A G) (joined gained : List (Ended A G)) (born more : List ℕ)
         → Numbers seats owner parent log id [] (first ∷ joined) born → Numbers seats owner parent log other [] (last ∷ gained) more
-        → Numbers seats moved parent log id [] (first ∷ (joined ++ (gained ++ last ∷ []))) (born ++ more)
+        → Numbers seats (moved owner id other) parent log id [] (first ∷ (joined ++ (gained ++ last ∷ []))) (born ++ more)
     numbers_joined first last joined gained born more k h = let ps : List (Ended A G) = first ∷ joined in let qs : List (Ended A G) = last ∷ gained in
         let ns : List ℕ = map number_of gained ++ last.number ∷ [] in
         let turned : map number_of (gained ++ last ∷ []) ≡ ns = number_map gained (last ∷ []) in

@@ -1,3 +1,4 @@
 pub mod Lists
 pub mod Boards
 pub mod Calls
+pub mod Seats
