@@ -5,6 +5,7 @@ use mathlib.Core.List.{IsPrefix}
 use mathlib.Core.Logic.{dite}
 use native.Mathlib.Decide.{ℕ_discrete, dec_lt}
 use lib.ListN.{get_elem?}
+use lib.Seq.{set-get_or}
 use prog.Atomic.{either}
 use Rattle.std.specs.Prelude.{nat_lt}
 use Rattle.atomic_table.specs.Table.{State, Me, step, keeps, stepped, Allows, Splits, Joins}
@@ -278,3 +279,128 @@ module _ {O X A G : Type 0} (stands : O → X → List (A × G) → Type 0) (sta
             (λ e. let is : owner m ≡ fresh = ap owner e ∙ put_here b.owner n fresh in omega (arith, longer))
             (λ other. let is : owner m ≡ b.owner m = put_else b.owner n fresh m other in omega (arith, longer, r.owners m high));
       }
+
+  pub splits_seat : (id n : ℕ) (v : V) → v.stage ≡ Drawn n → v.live ≡ true → Splits Rule id v (split_left v) (split_right v)
+  splits_seat id n v drawn alive s r at = let same : v ≡ staged v (Drawn n) = at_stage stands start v (Drawn n) drawn in
+      subst (λ (z : V). Rule record { words = s.words; homes = s.homes; views = set s.views id (split_left z) ++ split_right z ∷ [] }) (sym same)
+          (split_at id n v alive s r (subst (λ (z : V). get_elem? s.views id ≡ some z) same at))
+
+  still_both : (s : St) (id other i : ℕ) (v w : V) → i < length s.views → i < length (set (set s.views id v) other w)
+  still_both s id other i v w lt = omega (arith, length-set (set s.views id v) other w, length-set s.views id v)
+
+  -- the rule after two views changed and the words did not
+  both_set : (s : St) (r : Rule s) (seats : ℕ) (owner parent : ℕ → ℕ) (id other : ℕ) (v w : V) → let b' : Board O A G = renumbered r.board seats owner parent in K b' id v → K b' other w
+      → ((j : ℕ) (u : V) → j ≢ id → j ≢ other → get_elem? s.views j ≡ some u → K b' j u) → seats ≡ r.board.seats → parent ≡ r.board.parent → ((n : ℕ) → n < seats → owner n < length s.views)
+      → Rule record { words = s.words; homes = s.homes; views = set (set s.views id v) other w }
+  both_set s r seats owner parent id other v w k h others same_seats same_parent inside = let b = r.board in let b' : Board O A G = renumbered b seats owner parent in record {
+    board = b';
+    words = r.words ∙ ap (λ (z : ℕ). b.ticket ∷ b.serving ∷ b.count ∷ z ∷ []) (sym same_seats);
+    homes = r.homes;
+    object = object_kept b seats owner parent b.phase r.object;
+    counted = r.counted;
+    few = r.few;
+    in_turn = r.in_turn;
+    tickets_left = r.tickets_left;
+    numbers_left = subst (λ (z : ℕ). (0 < z) × (z ≤ 2 ^ 62)) (sym same_seats) r.numbers_left;
+    fresh = λ n high. r.fresh n (omega arith);
+    older = λ n low high. subst (λ (f : ℕ → ℕ). f n < n) (sym same_parent) (r.older n low (omega arith));
+    each_view = views_set (K b') (set s.views id v) other w h (λ j u ne here. views_set (λ i x. i ≢ other → K b' i x) s.views id v (λ _. k) (λ i x ne' there apart. others i x ne' apart there) j u here ne);
+    holders = λ t low high. still_both s id other (b.whose t) v w (r.holders t low high);
+    owners = λ n high. still_both s id other (owner n) v w (inside n high);
+  }
+
+  other_there : (vs : List V) (id other : ℕ) (v w : V) → (other ≡ id → ⊥) → get_elem? (set vs id v) other ≡ some w → get_elem? vs other ≡ some w
+  other_there vs id other v w apart there = ⊎_elim (λ (t : (other ≡ id) × (v ≡ w)). absurd (apart t.0)) (λ (t : (other ≢ id) × (get_elem? vs other ≡ some w)). t.1) (at_set vs id other v w there)
+
+  -- what a view that waits for nothing knows of tickets stands for a spent one too
+  idle_tickets : (b : Board O A G) (j : ℕ) (w : V) → w.stage ≡ Idle → K b j w → Tickets b j Idle
+  idle_tickets b j w idle k = subst (λ (z : Stage A G). Tickets b j z) idle k.tickets
+
+  pub joins_seat : (id : ℕ) (v : V) (other : ℕ) (w : V) (x : X) → v.stage ≡ Idle → v.live ≡ true → w.stage ≡ Idle → w.live ≡ true → Joins Rule id v other w (glued v w) (lifeless x [])
+  joins_seat id v other w x idle alive idle' alive' s r at apart there = let b = r.board in let k = r.each_view id v at in let here = other_there s.views id other (glued v w) w apart there in let h = r.each_view other w here in
+      let n = numbers_at stands start b id v Idle idle alive k in let n' = numbers_at stands start b other w Idle idle' alive' h in
+      let owner : ℕ → ℕ = moved b.owner id other in let b' : Board O A G = renumbered b b.seats owner b.parent in let y : V = glued v w in
+      let nums = numbers_joined b.seats b.owner b.parent b.log id other apart (ended v.number v.own) (ended w.number w.own) v.ended w.ended v.born w.born n n' in
+      both_set s r b.seats owner b.parent id other y (lifeless x [])
+          record {
+            seen = k.seen;
+            met = h.seen;
+            tickets = tickets_kept b b.seats owner b.parent id v.stage k.tickets;
+            numbers = numbers_back stands start b' id y alive
+                (subst (λ (z : Stage A G). Numbers b.seats owner b.parent b.log id (drawn_of z) (map (λ m. ended m []) (drawn_of z) ++ (ended v.number v.own ∷ y.ended)) y.born) (sym idle) nums);
+            starts = k.starts;
+          }
+          record {
+            seen = (b.log, refl);
+            met = (b.log, refl);
+            tickets = tickets_kept b b.seats owner b.parent other Idle (idle_tickets b other w idle' h);
+            numbers = numbers_spent b.seats b.owner b.parent b.log id other apart;
+            starts = λ e. cc;
+          }
+          (λ j u ne ne' at'. let g = r.each_view j u at' in stays b b.seats owner b.parent j u g
+              (numbers_moved b.seats b.owner b.parent b.log id other apart j (drawn_of u.stage) (parts_of u) u.born ne ne' g.numbers))
+          refl refl
+          (λ m high. dite (ℕ_discrete (b.owner m) other)
+              (λ e. let is : owner m ≡ id = ap (λ (c : Bool). cond c id (b.owner m)) (eq-eqb (b.owner m) other e) in omega (arith, at_bound s.views id v at))
+              (λ not. let is : owner m ≡ b.owner m = ap (λ (c : Bool). cond c id (b.owner m)) (ne_eqb (b.owner m) other not) in omega (arith, r.owners m high)))
+
+  pub joins_note : (id : ℕ) (v : V) (other : ℕ) (w : V) (x : X) → w.stage ≡ Idle → w.live ≡ false → Joins Rule id v other w (informed v w) (lifeless x [])
+  joins_note id v other w x idle lifeless_is s r at apart there = let b = r.board in let k = r.each_view id v at in let here = other_there s.views id other (informed v w) w apart there in let h = r.each_view other w here in
+      let bare = subst (λ (z : Stage A G × Bool). Numbers b.seats b.owner b.parent b.log other (drawn_of z.0) (map (λ n. ended n []) (drawn_of z.0) ++ cond z.1 (ended w.number w.own ∷ w.ended) []) w.born)
+          (λ i. (idle i, lifeless_is i)) h.numbers in
+      both_set s r b.seats b.owner b.parent id other (informed v w) (lifeless x [])
+          record {
+            seen = k.seen;
+            met = h.seen;
+            tickets = k.tickets;
+            numbers = k.numbers;
+            starts = k.starts;
+          }
+          record {
+            seen = (b.log, refl);
+            met = (b.log, refl);
+            tickets = idle_tickets b other w idle h;
+            numbers = numbers_none b.seats b.owner b.parent b.log other (λ m high is. bare.has m high is) r.older;
+            starts = λ e. cc;
+          }
+          (λ j u _ _ at'. r.each_view j u at')
+          refl refl r.owners
+
+  pub settles_it : (slots id i : ℕ) (me : M) → me.0.stage ≡ Idle → me.0.live ≡ true → Allows Rule slots id me i (λ n. n) (settles (step slots i 0 0 none) me)
+  settles_it slots id i me idle alive s r _ at _ = let b = r.board in let v : V = me.0 in let k = r.each_view id v at in let n = numbers_at stands start b id v Idle idle alive k in
+      let new : List (Entry A G) = longer_of v.seen v.met in let both = longer_cases v.seen v.met b.log k.seen k.met in let begins = both_begin v.seen v.met new both.0 in let w : V = settled_view v in (
+        w,
+        keeps,
+        tt,
+        subst (λ (ws : List ℕ). Rule record { words = ws; homes = s.homes; views = set s.views id w }) (sym (set-get_or s.words i 0)) record {
+          board = b;
+          words = r.words;
+          homes = r.homes;
+          object = r.object;
+          counted = r.counted;
+          few = r.few;
+          in_turn = r.in_turn;
+          tickets_left = r.tickets_left;
+          numbers_left = r.numbers_left;
+          fresh = r.fresh;
+          older = r.older;
+          each_view = views_set (K b) s.views id w
+              record {
+                seen = both.1;
+                met = (b.log, refl);
+                tickets = k.tickets;
+                numbers = k.numbers;
+                starts = k.starts;
+              }
+              (λ j u _ here. r.each_view j u here);
+          holders = λ t low high. still_there stands start s id w (b.whose t) (r.holders t low high);
+          owners = λ m high. still_there stands start s id w (b.owner m) (r.owners m high);
+        },
+        (
+          refl,
+          both.0,
+          λ keeps_parts. whole_from b.seats b.owner b.parent b.log id v.number v.own v.ended v.born new (short_log stands start s r) r.fresh r.older n both.1
+              (each_both _ _ _ (λ e f g. ⊎_elim (λ a. under_between e.number v.seen new b.log e.own begins.0 both.1 a f.2) (λ a. under_between e.number v.met new b.log e.own begins.1 both.1 a f.2) g)
+              (ended v.number v.own ∷ v.ended) n.each keeps_parts),
+        ),
+      )
