@@ -18,7 +18,7 @@ use Rattle.ig_turn.specs.declared.view.Stage.TheVariants.{Idle, Waiting, Holding
 use Rattle.ig_turn.specs.declared.view.View.{View}
 use Rattle.ig_turn.specs.History.{under, entry, ended, pairs_of, numbers_of, IsWhole}
 use Rattle.ig_turn.specs.Rule.{Phase, home, out, Board, Has, Apart, Each, number_of, drawn_of, parts_of, homes_of, commits_of, words_of, HasTicket, StageFits, HolderFits, Tickets, Numbers, Knows, ObjectFits, Ordered}
-use Rattle.ig_turn.specs.Steps.{staged, committed_view, IsWholeView, draws_ticket, takes_object, commits, passes}
+use Rattle.ig_turn.specs.Steps.{staged, held_ticket, held_list, committed_view, IsWholeView, draws_ticket, takes_object, commits, passes}
 use Rattle.ig_turn.proofs.Lists.{prefix_refl, prefix_more, each_weaker, each_has, each_in, all_from_each, each_from_all, has_from_contains, contains_from_has, distinct_from_apart, under_some, under-other}
 use Rattle.ig_turn.proofs.Boards.{put, put_here, put_else, views_set, idle_or_holding, waiting_or_holding, with_ticket, with_phase, with_entry, with_next, tickets_drawn, tickets_mine, tickets_taken, tickets_taking, tickets_logged, tickets_logging, tickets_passed, tickets_passing, numbers_logged, numbers_logging}
 
@@ -32,10 +32,6 @@ module _ {A G : Type 0} where
   ticket_of (Waiting t) = t
   ticket_of (Holding t l c) = t
   ticket_of _ = 0
-
-  abbrev list_of : Stage A G → List (Entry A G)
-  list_of (Holding t l c) = l
-  list_of _ = []
 
   -- whoever has 0 and all its `born` among its numbers has every number that was drawn
   module _ (seats : ℕ) (owner parent : ℕ → ℕ) (log : List (Entry A G)) (j : ℕ) (parts : List (Ended A G)) (born : List ℕ) (k : Numbers seats owner parent log j [] parts born)
@@ -327,9 +323,9 @@ module _ {O X A G : Type 0} (stands : O → X → List (A × G) → Type 0) (sta
               (omega (arith, r.tickets_left, few, f.0, f.1)) fresh' r.older n' (prefix_refl log') (each_weaker _ _ (λ e h. h.2) (ended v.number (v.own ++ entry v.number ask got ∷ []) ∷ v.ended) n'.each),
         )
 
-  pub commits_call : (slots id : ℕ) (me : M) (t : ℕ) (l : List (Entry A G)) (ask : A) (got : G) → me.0.stage ≡ Holding t l 0 → me.0.live ≡ true
-      → Allows Rule slots id me 2 (λ x. (x + 1) % 2 ^ 64) (commits ((ask, got) ∷ []) (step slots 2 1 0 none) me)
-  commits_call slots id me t l ask got holds alive s r _ at _ = let b = r.board in let v : V = me.0 in let x : ℕ = get_or s.words 2 0 in let is : x ≡ b.count = ap (λ (ws : List ℕ). get_or ws 2 0) r.words in
+  pub commits_call : (slots id : ℕ) (me : M) (t : ℕ) (l : List (Entry A G)) (ask : A) (got : G) (calls : List (A × G)) → me.0.stage ≡ Holding t l 0 → me.0.live ≡ true → calls ≡ (ask, got) ∷ []
+      → Allows Rule slots id me 2 (λ x. (x + 1) % 2 ^ 64) (commits calls (step slots 2 1 0 none) me)
+  commits_call slots id me t l ask got calls holds alive one s r _ at _ = let b = r.board in let v : V = me.0 in let x : ℕ = get_or s.words 2 0 in let is : x ≡ b.count = ap (λ (ws : List ℕ). get_or ws 2 0) r.words in
       let k : K b id (staged v (Holding t l 0)) = subst (K b id) (at_stage v (Holding t l 0) holds) (r.each_view id v at) in let f = k.tickets.stage in
       let same : l ≡ b.log = f.4 in let here : v.stage ≡ Holding t b.log 0 = holds ∙ ap (λ (z : List (Entry A G)). Holding t z 0) same in
       let made = call_committed s r id v at me.1 t ask got here alive f.3 in
@@ -338,8 +334,8 @@ module _ {O X A G : Type 0} (stands : O → X → List (A × G) → Type 0) (sta
         keeps,
         tt,
         subst (λ (z : ℕ). Rule (stepped s 2 z id me.1 (committed_view v t b.log ask got) keeps)) (sym next) made.0,
-        λ t' l' ask' got' holds' calls. let st = sym here ∙ holds' in
-            ((λ i. (committed_view v (ap ticket_of st i) (ap list_of st i) (slice_index_or (calls i) 0 (ask, got)).0 (slice_index_or (calls i) 0 (ask, got)).1, me.1)), made.1),
+        λ t' l' ask' got' holds' one'. let st = sym here ∙ holds' in let same_call = sym one ∙ one' in
+            ((λ i. (committed_view v (ap held_ticket st i) (ap held_list st i) (slice_index_or (same_call i) 0 (ask, got)).0 (slice_index_or (same_call i) 0 (ask, got)).1, me.1)), made.1),
       )
 
   module _ (s : St) (r : Rule s) (id : ℕ) (v : V) (at : get_elem? s.views id ≡ some v) where

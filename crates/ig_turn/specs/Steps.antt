@@ -14,6 +14,19 @@ module _ {A G : Type 0} where
   drawn_number (Drawn n) = n
   drawn_number _ = 0
 
+  -- the ticket and the list of a seat that holds the object
+  abbrev pub held_ticket : Stage A G → ℕ
+  held_ticket (Holding t l c) = t
+  held_ticket _ = 0
+
+  abbrev pub held_list : Stage A G → List (Entry A G)
+  held_list (Holding t l c) = l
+  held_list _ = []
+
+  -- the seat holds the object, and has committed c times since it took it
+  abbrev pub IsHolding : Stage A G → ℕ → Type 0
+  IsHolding st c = st ≡ Holding (held_ticket st) (held_list st) c
+
   abbrev pub longer_of : List (Entry A G) → List (Entry A G) → List (Entry A G)
   longer_of xs ys = cond (nat_lt (length xs) (length ys)) ys xs
 
@@ -62,7 +75,19 @@ module _ {X A G : Type 0} where
   abbrev pub KeepsParts : View X A G → Type 0
   KeepsParts v = Each (λ e. (under e.number v.seen ≡ e.own) ⊎ (under e.number v.met ≡ e.own)) (ended v.number v.own ∷ v.ended)
 
+  -- What a seat knows between two calls. It holds nothing, and waits for nothing
+  pub record IsAtRest (runs : X → List (A × G) → Type 0) (v : View X A G) : Type 0 where
+    pub idle : v.stage ≡ Idle
+    pub live : v.live ≡ true
+    pub met_none : v.met ≡ []
+    pub legal : runs v.start (pairs_of v.seen)
+    pub whole : IsWholeView v
+
   module _ {O : Type 0} where
+    -- the seat has taken the object, which stands for these pairs
+    abbrev pub Carries : (O → X → List (A × G) → Type 0) → Me O (View X A G) → List (A × G) → Type 0
+    Carries stands me pairs = (o : O) × (me.1 ≡ (0, o) ∷ []) × stands o me.0.start pairs
+
     -- a ticket was drawn where the word was as expected
     abbrev pub draws_ticket : Step O → Me O (View X A G) → ℕ → Me O (View X A G) → Type 0
     draws_ticket s me found me' = (found ≡ s.first → me' ≡ (staged me.0 (Waiting found), me.1)) × (found ≢ s.first → me' ≡ me)

@@ -1,0 +1,190 @@
+//! The table of a turn, and the steps of its calls.
+ghost use Rattle.std.specs.Prelude.{◌≡◌, ◌≢◌, ◌<◌, ◌≤◌, ℕ, true, List, [], ◌∷◌, ◌++◌, IfOk, IfErr, IsOk};
+ghost use mathlib.Core.List.{IsPrefix};
+ghost use Rattle.ig_turn.specs.declared.view.Entry.{Entry};
+ghost use Rattle.ig_turn.specs.declared.view.Stage.TheVariants.{Idle, Waiting, Holding, Drawn};
+ghost use Rattle.ig_turn.specs.History.{pairs_of};
+ghost use Rattle.ig_turn.specs.Steps.{staged, committed_view, held_ticket, held_list, IsHolding, IsWholeView, Carries};
+
+use crate::plain::Plain;
+use crate::rule::{Commit, DrawTicket, InTurn, Made, Pass, TakeObject};
+use crate::view::View;
+use atomic_table::{Seat, Table};
+use ig_base::NoRoom;
+use std::alloc::Global;
+use std::hint;
+use std::snapshot::Snapshot;
+use std::sync::Wait;
+use std::sync::atomic::AtomicU64;
+use std::sync::atomic::Ordering::SeqCst;
+use std::thread;
+
+/// The next ticket.
+pub(crate) const TICKET: usize = 0;
+
+/// The ticket that is served.
+pub(crate) const SERVING: usize = 1;
+
+/// The number of calls in the history.
+pub(crate) const COUNT: usize = 2;
+
+/// The next number of a seat.
+pub(crate) const SEATS: usize = 3;
+
+/// No ticket and no number is drawn from here on.
+pub(crate) const MOST: u64 = 1 << 62;
+
+// How often a call looks again before it sleeps.
+const LOOKS: u32 = 100;
+
+const OBJECT: usize = 0;
+
+const LOW_BITS: u64 = 0xffff_ffff;
+
+/// A seat at the table.
+pub(crate) type Place<O> = Seat<
+    O,
+    View<<O as Plain>::Start, <O as Plain>::AskData, <O as Plain>::GotData>,
+>;
+
+#[derive(Drop)]
+pub(crate) struct Desk<O: Plain> {
+    pub(crate) table: Table<O, View<O::Start, O::AskData, O::GotData>, Snapshot<O>, InTurn, Global>,
+    // 1 where a call may sleep.
+    asleep: AtomicU64,
+    pub ghost sized: { (table.shared.table_id.words ≡ 4) × (table.shared.table_id.slots ≡ 1) },
+}
+
+impl<O: Plain> Desk<O> {
+    // Draws a ticket where nobody has the turn, and else waits. Where no ticket is left it waits for ever.
+    fn draw<R: Wait>(&self, rt: &R, place: &mut Place<O>) -> u64
+        requires id { place.old.table_id ≡ self.now.table.shared.table_id }
+        requires idle { place.old.me.0.stage ≡ Idle }
+        ensures id { (place.new.table_id ≡ place.old.table_id) × (place.new.id ≡ place.old.id) }
+        ensures drawn { place.new.me ≡ (staged place.old.me.0 (Waiting result), place.old.me.1) }
+    {
+        for _ in rt.forever() {
+            if let Some(ticket) = self.free_ticket() {
+                let found = self
+                    .table
+                    .shared
+                    .compare_exchange::<DrawTicket>(place, TICKET, ticket, ticket + 1);
+                if found == ticket {
+                    return ticket;
+                }
+            } else {
+                self.wait(rt);
+            }
+        }
+        unreachable!()
+    }
+
+    // The next ticket, if nobody has the turn and it may be drawn.
+    fn free_ticket(&self) -> Option<u64>
+        ensures { (ticket : ℕ) → result ≡ Some ticket → ticket < MOST }
+    {
+        let serving = self.table.shared.peek(SERVING);
+        let ticket = self.table.shared.peek(TICKET);
+        if ticket == serving && ticket < MOST {
+            Some(ticket)
+        } else {
+            None
+        }
+    }
+
+    // Looks a while whether the turn is free, and then sleeps until it is passed.
+    fn wait<R: Wait>(&self, rt: &R) {
+        for _ in 0..LOOKS {
+            if self.free_ticket().is_some() {
+                return;
+            }
+            hint::spin_loop();
+        }
+        self.asleep.store(1, SeqCst);
+        let serving = self.table.shared.peek(SERVING);
+        if self.table.shared.peek(TICKET) != serving || serving >= MOST {
+            self.table
+                .shared
+                .park(rt, SERVING, (serving & LOW_BITS) as u32);
+            // Others may sleep still.
+            self.asleep.store(1, SeqCst);
+        }
+    }
+
+    // Takes the object once the ticket is served.
+    fn take<R: Wait>(&self, rt: &R, place: &mut Place<O>, ticket: u64)
+        requires id { place.old.table_id ≡ self.now.table.shared.table_id }
+        requires waits { (place.old.me.0.stage ≡ Waiting ticket) × (place.old.me.0.live ≡ true) × (place.old.me.1 ≡ []) }
+        ensures id { (place.new.table_id ≡ place.old.table_id) × (place.new.id ≡ place.old.id) }
+        ensures taken { (list : List (Entry O.AskData O.GotData)) × (place.new.me.0 ≡ staged place.old.me.0 (Holding ticket list 0)) × Carries O.stands place.new.me (pairs_of list) × IsPrefix place.old.me.0.seen list }
+    {
+        for _ in rt.forever() {
+            if self.table.shared.load::<TakeObject>(place, SERVING) == ticket {
+                return;
+            }
+            thread::yield_now();
+        }
+        unreachable!()
+    }
+
+    /// Waits for the turn and takes the object.
+    pub(crate) fn enter<R: Wait>(&self, rt: &R, place: &mut Place<O>)
+        requires id { place.old.table_id ≡ self.now.table.shared.table_id }
+        requires idle { (place.old.me.0.stage ≡ Idle) × (place.old.me.0.live ≡ true) × (place.old.me.1 ≡ []) }
+        ensures id { (place.new.table_id ≡ place.old.table_id) × (place.new.id ≡ place.old.id) }
+        ensures taken { (ticket : ℕ) × (list : List (Entry O.AskData O.GotData)) × (place.new.me.0 ≡ staged place.old.me.0 (Holding ticket list 0)) × Carries O.stands place.new.me (pairs_of list) × IsPrefix place.old.me.0.seen list }
+    {
+        let ticket = self.draw(rt, place);
+        self.take(rt, place, ticket);
+    }
+
+    /// Asks the object that the seat has taken.
+    pub(crate) fn act(
+        &self,
+        place: &mut Place<O>,
+        ask: O::Ask,
+    ) -> Result<O::Got, NoRoom<O::Ask>>
+        requires id { place.old.table_id ≡ self.now.table.shared.table_id }
+        requires fits { O.fits ask }
+        requires carries { Carries O.stands place.old.me (pairs_of (held_list place.old.me.0.stage)) }
+        ensures id { (place.new.table_id ≡ place.old.table_id) × (place.new.id ≡ place.old.id) }
+        ensures view { place.new.me.0 ≡ place.old.me.0 }
+        ensures ok { IfOk result (λ got. Carries O.stands place.new.me (pairs_of (held_list place.old.me.0.stage) ++ (O.ask_data ask, O.got_data got) ∷ [])) }
+        ensures err { IfErr result (λ none. (none.back ≡ ask) × Carries O.stands place.new.me (pairs_of (held_list place.old.me.0.stage))) }
+        ensures sure { O.is_sure ask → IsOk result }
+    {
+        let object = place.slot_mut(&self.table.shared, OBJECT);
+        object.act(ask)
+    }
+
+    /// Adds the call that was made to the history.
+    pub(crate) fn commit<M: Made<O::AskData, O::GotData>>(
+        &self,
+        place: &mut Place<O>,
+        ask: Snapshot<O::Ask>,
+        got: &O::Got,
+    )
+        requires id { place.old.table_id ≡ self.now.table.shared.table_id }
+        requires made { M.calls ≡ (O.ask_data ask.value, O.got_data got.now) ∷ [] }
+        requires holds { IsHolding place.old.me.0.stage 0 × (place.old.me.0.live ≡ true) }
+        ensures id { (place.new.table_id ≡ place.old.table_id) × (place.new.id ≡ place.old.id) }
+        ensures committed { place.new.me ≡ (committed_view place.old.me.0 (held_ticket place.old.me.0.stage) (held_list place.old.me.0.stage) (O.ask_data ask.value) (O.got_data got.now), place.old.me.1) }
+        ensures whole { IsWholeView place.new.me.0 }
+    {
+        self.table.shared.fetch_add::<Commit<M>>(place, COUNT, 1);
+    }
+
+    /// Gives the object back and passes the turn.
+    pub(crate) fn pass(&self, place: &mut Place<O>)
+        requires id { place.old.table_id ≡ self.now.table.shared.table_id }
+        requires holds { (commits : ℕ) × IsHolding place.old.me.0.stage commits × (place.old.me.0.live ≡ true) }
+        requires carries { Carries O.stands place.old.me (pairs_of (held_list place.old.me.0.stage)) }
+        ensures id { (place.new.table_id ≡ place.old.table_id) × (place.new.id ≡ place.old.id) }
+        ensures passed { place.new.me ≡ (staged place.old.me.0 Idle, []) }
+    {
+        self.table.shared.fetch_add::<Pass>(place, SERVING, 1);
+        if self.asleep.load(SeqCst) != 0 && self.asleep.swap(0, SeqCst) != 0 {
+            self.table.shared.wake_one(SERVING);
+        }
+    }
+}
