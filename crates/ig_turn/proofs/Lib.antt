@@ -2,3 +2,4 @@ pub mod Lists
 pub mod Boards
 pub mod Calls
 pub mod Seats
+pub mod Opens

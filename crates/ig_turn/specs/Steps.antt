@@ -35,6 +35,9 @@ module _ {X A G : Type 0} where
   abbrev pub staged : View X A G → Stage A G → View X A G
   staged v st = record v { stage = st }
 
+  abbrev pub IsLegalView : (X → List (A × G) → Type 0) → View X A G → Type 0
+  IsLegalView runs v = runs v.start (pairs_of v.seen)
+
   abbrev pub opening_view : X → View X A G
   opening_view x = record { start = x; stage = Idle; live = true; number = 0; seen = []; met = []; own = []; ended = []; born = [] }
 
@@ -75,12 +78,16 @@ module _ {X A G : Type 0} where
   abbrev pub KeepsParts : View X A G → Type 0
   KeepsParts v = Each (λ e. (under e.number v.seen ≡ e.own) ⊎ (under e.number v.met ≡ e.own)) (ended v.number v.own ∷ v.ended)
 
+  -- the view has seen more, and then its own call
+  abbrev pub AddsView : View X A G → View X A G → A → G → Type 0
+  AddsView v w ask got = (between : List (Entry A G)) × (w ≡ record v { seen = (v.seen ++ between) ++ entry v.number ask got ∷ []; own = v.own ++ entry v.number ask got ∷ [] })
+
   -- What a seat knows between two calls. It holds nothing, and waits for nothing
   pub record IsAtRest (runs : X → List (A × G) → Type 0) (v : View X A G) : Type 0 where
     pub idle : v.stage ≡ Idle
     pub live : v.live ≡ true
     pub met_none : v.met ≡ []
-    pub legal : runs v.start (pairs_of v.seen)
+    pub legal : IsLegalView runs v
     pub whole : IsWholeView v
 
   module _ {O : Type 0} where

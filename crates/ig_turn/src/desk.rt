@@ -1,10 +1,10 @@
 //! The table of a turn, and the steps of its calls.
-ghost use Rattle.std.specs.Prelude.{◌≡◌, ◌≢◌, ◌<◌, ◌≤◌, ℕ, true, List, [], ◌∷◌, ◌++◌, IfOk, IfErr, IsOk};
+ghost use Rattle.std.specs.Prelude.{◌≡◌, ◌≢◌, ◌<◌, ◌≤◌, ℕ, true, List, [], ◌∷◌, ◌++◌, IfOk, IfErr, IfSome, IsOk, OnOk};
 ghost use mathlib.Core.List.{IsPrefix};
 ghost use Rattle.ig_turn.specs.declared.view.Entry.{Entry};
 ghost use Rattle.ig_turn.specs.declared.view.Stage.TheVariants.{Idle, Waiting, Holding, Drawn};
 ghost use Rattle.ig_turn.specs.History.{pairs_of};
-ghost use Rattle.ig_turn.specs.Steps.{staged, committed_view, held_ticket, held_list, IsHolding, IsWholeView, Carries};
+ghost use Rattle.ig_turn.specs.Steps.{staged, committed_view, held_ticket, held_list, IsHolding, IsWholeView, IsLegalView, Carries, AddsView};
 
 use crate::plain::Plain;
 use crate::rule::{Commit, DrawTicket, InTurn, Made, Pass, TakeObject};
@@ -13,6 +13,7 @@ use atomic_table::{Seat, Table};
 use ig_base::NoRoom;
 use std::alloc::Global;
 use std::hint;
+use std::marker::Brand;
 use std::snapshot::Snapshot;
 use std::sync::Wait;
 use std::sync::atomic::AtomicU64;
@@ -81,7 +82,7 @@ impl<O: Plain> Desk<O> {
 
     // The next ticket, if nobody has the turn and it may be drawn.
     fn free_ticket(&self) -> Option<u64>
-        ensures { (ticket : ℕ) → result ≡ Some ticket → ticket < MOST }
+        ensures { IfSome result (λ ticket. ticket < MOST) }
     {
         let serving = self.table.shared.peek(SERVING);
         let ticket = self.table.shared.peek(TICKET);
@@ -127,8 +128,39 @@ impl<O: Plain> Desk<O> {
         unreachable!()
     }
 
-    /// Waits for the turn and takes the object.
-    pub(crate) fn enter<R: Wait>(&self, rt: &R, place: &mut Place<O>)
+    /// A whole call: the turn is waited for, the object asked, its answer committed, and the turn passed.
+    pub(crate) fn call<R: Wait>(
+        &self,
+        rt: &R,
+        place: &mut Place<O>,
+        ask: O::Ask,
+    ) -> Result<O::Got, NoRoom<O::Ask>>
+        requires id { place.old.table_id ≡ self.now.table.shared.table_id }
+        requires idle { (place.old.me.0.stage ≡ Idle) × (place.old.me.0.live ≡ true) × (place.old.me.1 ≡ []) }
+        requires fits { O.fits ask }
+        ensures id { (place.new.table_id ≡ place.old.table_id) × (place.new.id ≡ place.old.id) × (place.new.me.1 ≡ []) }
+        ensures ok { IfOk result (λ got. AddsView place.old.me.0 place.new.me.0 (O.ask_data ask) (O.got_data got)) }
+        ensures legal { OnOk result (IsLegalView O.runs place.new.me.0 × IsWholeView place.new.me.0) }
+        ensures err { IfErr result (λ none. (none.back ≡ ask) × (place.new.me.0 ≡ place.old.me.0)) }
+        ensures sure { O.is_sure ask → IsOk result }
+    {
+        self.enter(rt, place);
+        let asked = Snapshot::of(&ask);
+        match self.act(place, ask) {
+            Ok(got) => {
+                self.commit::<Brand>(place, asked, &got);
+                self.pass(place);
+                Ok(got)
+            }
+            Err(none) => {
+                self.pass(place);
+                Err(none)
+            }
+        }
+    }
+
+    // Waits for the turn and takes the object.
+    fn enter<R: Wait>(&self, rt: &R, place: &mut Place<O>)
         requires id { place.old.table_id ≡ self.now.table.shared.table_id }
         requires idle { (place.old.me.0.stage ≡ Idle) × (place.old.me.0.live ≡ true) × (place.old.me.1 ≡ []) }
         ensures id { (place.new.table_id ≡ place.old.table_id) × (place.new.id ≡ place.old.id) }
@@ -138,8 +170,8 @@ impl<O: Plain> Desk<O> {
         self.take(rt, place, ticket);
     }
 
-    /// Asks the object that the seat has taken.
-    pub(crate) fn act(
+    // Asks the object that the seat has taken.
+    fn act(
         &self,
         place: &mut Place<O>,
         ask: O::Ask,
@@ -157,8 +189,8 @@ impl<O: Plain> Desk<O> {
         object.act(ask)
     }
 
-    /// Adds the call that was made to the history.
-    pub(crate) fn commit<M: Made<O::AskData, O::GotData>>(
+    // Adds the call that was made to the history.
+    fn commit<M: Made<O::AskData, O::GotData>>(
         &self,
         place: &mut Place<O>,
         ask: Snapshot<O::Ask>,
@@ -174,8 +206,8 @@ impl<O: Plain> Desk<O> {
         self.table.shared.fetch_add::<Commit<M>>(place, COUNT, 1);
     }
 
-    /// Gives the object back and passes the turn.
-    pub(crate) fn pass(&self, place: &mut Place<O>)
+    // Gives the object back and passes the turn.
+    fn pass(&self, place: &mut Place<O>)
         requires id { place.old.table_id ≡ self.now.table.shared.table_id }
         requires holds { (commits : ℕ) × IsHolding place.old.me.0.stage commits × (place.old.me.0.live ≡ true) }
         requires carries { Carries O.stands place.old.me (pairs_of (held_list place.old.me.0.stage)) }
