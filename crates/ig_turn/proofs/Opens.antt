@@ -5,7 +5,10 @@ use lib.ListN.{get_elem?}
 use Rattle.atomic_table.specs.Table.{State, opening}
 use Rattle.ig_turn.specs.declared.view.View.{View}
 use Rattle.ig_turn.specs.Rule.{home, Board, Knows, Ordered}
-use Rattle.ig_turn.specs.Steps.{opening_view}
+use Rattle.std.proofs.lemmas.List.Elements.{All-nil}
+use Rattle.ig_turn.specs.History.{IsWhole}
+use Rattle.ig_turn.specs.Steps.{opening_view, IsAtRest}
+use Rattle.ig_turn.proofs.Lists.{distinct_from_apart}
 
 module _ {O X A G : Type 0} (stands : O → X → List (A × G) → Type 0) (start : X) where
   abbrev first_board : O → Board O A G
@@ -58,3 +61,21 @@ module _ {O X A G : Type 0} (stands : O → X → List (A × G) → Type 0) (sta
     holders = λ t low high. absurd (omega arith);
     owners = λ n high. omega arith;
   }
+
+pub whole_opened : {A G : Type 0} → IsWhole {A = A} {G = G} 0 [] [] [] []
+whole_opened = record {
+  short = omega arith;
+  own_is = refl;
+  joined_are = All-nil _;
+  different = distinct_from_apart (0 ∷ []) (λ h. h, tt);
+  all_known = λ _ _. All-nil _;
+}
+
+pub rest_opened : {X A G : Type 0} (runs : X → List (A × G) → Type 0) (x : X) → runs x [] → IsAtRest runs (opening_view x)
+rest_opened runs x legal = record {
+  idle = refl;
+  live = refl;
+  met_none = refl;
+  legal = legal;
+  whole = whole_opened;
+}

@@ -43,6 +43,10 @@ module _ {A G : Type 0} where
         → All (λ e. Contains (numbers_of number joined) e.number) seen
 
 module _ {X A G : Type 0} where
+  -- the first seat of a turn, which has seen nothing
+  abbrev pub opened : TurnState X → SeatState X A G
+  opened t = record { table = t.table; start = t.start; number = 0; seen = []; own = []; ended = []; born = [] }
+
   -- the seat is of this turn
   abbrev pub IsOf : TurnState X → SeatState X A G → Type 0
   IsOf t s = (s.table ≡ t.table) × (s.start ≡ t.start)

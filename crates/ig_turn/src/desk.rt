@@ -1,17 +1,17 @@
 //! The table of a turn, and the steps of its calls.
-ghost use Rattle.std.specs.Prelude.{◌≡◌, ◌≢◌, ◌<◌, ◌≤◌, ℕ, true, List, [], ◌∷◌, ◌++◌, IfOk, IfErr, IfSome, IsOk, OnOk};
+ghost use Rattle.std.specs.Prelude.{◌≡◌, ◌≢◌, ◌<◌, ◌≤◌, ℕ, true, length, List, [], ◌∷◌, ◌++◌, IfOk, IfErr, IfSome, IsOk, OnOk};
 ghost use mathlib.Core.List.{IsPrefix};
 ghost use Rattle.ig_turn.specs.declared.view.Entry.{Entry};
 ghost use Rattle.ig_turn.specs.declared.view.Stage.TheVariants.{Idle, Waiting, Holding, Drawn};
 ghost use Rattle.ig_turn.specs.History.{pairs_of};
-ghost use Rattle.ig_turn.specs.Steps.{staged, committed_view, held_ticket, held_list, IsHolding, IsWholeView, IsLegalView, Carries, AddsView};
+ghost use Rattle.ig_turn.specs.Steps.{opening_view, staged, committed_view, held_ticket, held_list, IsHolding, IsWholeView, IsLegalView, Carries, AddsView};
 
 use crate::plain::Plain;
 use crate::rule::{Commit, DrawTicket, InTurn, Made, Pass, TakeObject};
 use crate::view::View;
-use atomic_table::{Seat, Table};
+use atomic_table::{Refused, Seat, Table};
 use ig_base::NoRoom;
-use std::alloc::Global;
+use std::alloc::{AllocFailed, Global};
 use std::hint;
 use std::marker::Brand;
 use std::snapshot::Snapshot;
@@ -56,7 +56,42 @@ pub(crate) struct Desk<O: Plain> {
     pub ghost sized: { (table.shared.table_id.words ≡ 4) × (table.shared.table_id.slots ≡ 1) },
 }
 
+// The object that came back.
+fn the_one<O: Plain>(mut slots: Vec<O>) -> O
+    requires { length slots.items ≡ 1 }
+    ensures { slots.items ≡ result ∷ [] }
+{
+    slots.pop().unwrap()
+}
+
 impl<O: Plain> Desk<O> {
+    /// A table with the object at home, and its first seat.
+    pub(crate) fn new(alloc: Global, object: O) -> Result<(Desk<O>, Place<O>), NoRoom<O>>
+        requires { O.stands object (O.start_of object) [] }
+        ensures start { IfOk result (λ made. made.0.table.shared.key.value ≡ object) }
+        ensures place { IfOk result (λ made. (made.1.table_id ≡ made.0.table.shared.table_id) × (made.1.me ≡ (opening_view (O.start_of object), []))) }
+        ensures err { IfErr result (λ none. none.back ≡ object) }
+    {
+        let key = Snapshot::of(&object);
+        let mut slots = Vec::new(alloc);
+        if let Err(failed) = slots.push(object) {
+            let AllocFailed { value } = failed;
+            return Err(NoRoom { back: value });
+        }
+        match Table::new(alloc, &[0, 0, 0, 1], slots, &key) {
+            Ok((table, place)) => Ok((
+                Desk {
+                    table,
+                    asleep: AtomicU64::new(0),
+                },
+                place,
+            )),
+            Err(Refused { slots }) => Err(NoRoom {
+                back: the_one(slots),
+            }),
+        }
+    }
+
     // Draws a ticket where nobody has the turn, and else waits. Where no ticket is left it waits for ever.
     fn draw<R: Wait>(&self, rt: &R, place: &mut Place<O>) -> u64
         requires id { place.old.table_id ≡ self.now.table.shared.table_id }
