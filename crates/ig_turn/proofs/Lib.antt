@@ -3,3 +3,4 @@ pub mod Boards
 pub mod Calls
 pub mod Seats
 pub mod Opens
+pub mod Wholes

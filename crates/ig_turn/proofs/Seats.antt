@@ -173,7 +173,6 @@ module _ {O X A G : Type 0} (stands : O → X → List (A × G) → Type 0) (sta
             omega (arith, n.each.0.1),
             each_weaker _ _ (λ m less. omega arith) v.born n.below,
             under_none x v.seen b.log k.seen (r.fresh x (omega arith)),
-            λ h. let t = each_has _ number_of (ended v.number v.own ∷ v.ended) x n.each h in omega (arith, t.1.1, t.2),
           ),
           λ ne. absurd (ne hit),
         ),

@@ -118,7 +118,7 @@ module _ {X A G : Type 0} where
     abbrev pub draws_number : Step O → Me O (View X A G) → ℕ → Me O (View X A G) → Type 0
     draws_number s me found me' =
         (found ≡ s.first → (me' ≡ (record me.0 { stage = Drawn found; born = me.0.born ++ found ∷ [] }, me.1)) × (me.0.number < found) × Each (λ n. n < found) me.0.born
-            × (under found me.0.seen ≡ []) × (Has (numbers_of me.0.number me.0.ended) found → ⊥))
+            × (under found me.0.seen ≡ []))
         × (found ≢ s.first → me' ≡ me)
 
     -- both lists that the view keeps are beginnings of the longer one, which it has seen from now on

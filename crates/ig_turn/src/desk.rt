@@ -3,11 +3,12 @@ ghost use Rattle.std.specs.Prelude.{◌≡◌, ◌≢◌, ◌<◌, ◌≤◌, �
 ghost use mathlib.Core.List.{IsPrefix};
 ghost use Rattle.ig_turn.specs.declared.view.Entry.{Entry};
 ghost use Rattle.ig_turn.specs.declared.view.Stage.TheVariants.{Idle, Waiting, Holding, Drawn};
-ghost use Rattle.ig_turn.specs.History.{pairs_of};
-ghost use Rattle.ig_turn.specs.Steps.{opening_view, staged, committed_view, held_ticket, held_list, IsHolding, IsWholeView, IsLegalView, Carries, AddsView};
+ghost use Rattle.ig_turn.specs.History.{pairs_of, under, IsLonger};
+ghost use Rattle.ig_turn.specs.Rule.{Each};
+ghost use Rattle.ig_turn.specs.Steps.{opening_view, split_right, settled_view, glued, informed, note_of, IsAtRest, staged, committed_view, held_ticket, held_list, IsHolding, IsWholeView, IsLegalView, Carries, AddsView};
 
 use crate::plain::Plain;
-use crate::rule::{Commit, DrawTicket, InTurn, Made, Pass, TakeObject};
+use crate::rule::{Commit, Cut, DrawNumber, DrawTicket, Glue, InTurn, Inform, Made, Note, Pass, Settle, TakeObject};
 use crate::view::View;
 use atomic_table::{Refused, Seat, Table};
 use ig_base::NoRoom;
@@ -253,5 +254,76 @@ impl<O: Plain> Desk<O> {
         if self.asleep.load(SeqCst) != 0 && self.asleep.swap(0, SeqCst) != 0 {
             self.table.shared.wake_one(SERVING);
         }
+    }
+
+    // Draws a number for a new seat. Where none is left it waits for ever.
+    fn draw_number<R: Wait>(&self, rt: &R, place: &mut Place<O>) -> u64
+        requires id { place.old.table_id ≡ self.now.table.shared.table_id }
+        requires idle { (place.old.me.0.stage ≡ Idle) × (place.old.me.0.live ≡ true) }
+        ensures id { (place.new.table_id ≡ place.old.table_id) × (place.new.id ≡ place.old.id) }
+        ensures drawn { place.new.me ≡ (record place.old.me.0 { stage = Drawn result; born = place.old.me.0.born ++ result ∷ [] }, place.old.me.1) }
+        ensures above { (place.old.me.0.number < result) × Each (λ n. n < result) place.old.me.0.born }
+        ensures unused { under result place.old.me.0.seen ≡ [] }
+    {
+        for _ in rt.forever() {
+            let number = self.table.shared.peek(SEATS);
+            if number < MOST {
+                let found = self
+                    .table
+                    .shared
+                    .compare_exchange::<DrawNumber>(place, SEATS, number, number + 1);
+                if found == number {
+                    return number;
+                }
+            } else {
+                self.table
+                    .shared
+                    .park(rt, SEATS, (number & LOW_BITS) as u32);
+            }
+        }
+        unreachable!()
+    }
+
+    /// A new seat, with its number.
+    pub(crate) fn split<R: Wait>(&self, rt: &R, place: &mut Place<O>) -> (u64, Place<O>)
+        requires id { place.old.table_id ≡ self.now.table.shared.table_id }
+        requires rest { IsAtRest O.runs place.old.me.0 }
+        ensures id { (place.new.table_id ≡ place.old.table_id) × (place.new.id ≡ place.old.id) × (result.1.table_id ≡ place.old.table_id) }
+        ensures left { place.new.me ≡ (record place.old.me.0 { stage = Idle; born = place.old.me.0.born ++ result.0 ∷ [] }, place.old.me.1) }
+        ensures right { result.1.me ≡ (split_right (staged place.old.me.0 (Drawn result.0)), []) }
+        ensures above { (place.old.me.0.number < result.0) × Each (λ n. n < result.0) place.old.me.0.born }
+        ensures rest { IsAtRest O.runs place.new.me.0 × IsAtRest O.runs result.1.me.0 }
+    {
+        let number = self.draw_number(rt, place);
+        let fresh = self.table.shared.split_seat::<Cut>(place);
+        (number, fresh)
+    }
+
+    /// One seat takes in another, and sees the longer of both lists.
+    pub(crate) fn join(&self, place: &mut Place<O>, other: Place<O>)
+        requires id { (place.old.table_id ≡ self.now.table.shared.table_id) × (other.table_id ≡ self.now.table.shared.table_id) }
+        requires rest { IsAtRest O.runs place.old.me.0 × IsAtRest O.runs other.me.0 × (other.me.1 ≡ []) }
+        ensures id { (place.new.table_id ≡ place.old.table_id) × (place.new.id ≡ place.old.id) }
+        ensures joined { place.new.me ≡ (settled_view (glued place.old.me.0 other.me.0), place.old.me.1) }
+        ensures seen { IsLonger place.old.me.0.seen other.me.0.seen place.new.me.0.seen }
+        ensures whole { IsWholeView place.new.me.0 }
+    {
+        self.table.shared.join_seat::<Glue<O>>(place, other);
+        self.table.shared.load::<Settle>(place, COUNT);
+    }
+
+    /// One seat tells another what it has seen.
+    pub(crate) fn meet(&self, teller: &mut Place<O>, learner: &mut Place<O>)
+        requires id { (teller.old.table_id ≡ self.now.table.shared.table_id) × (learner.old.table_id ≡ self.now.table.shared.table_id) }
+        requires rest { IsAtRest O.runs learner.old.me.0 }
+        ensures id { (teller.new.table_id ≡ teller.old.table_id) × (teller.new.id ≡ teller.old.id) × (learner.new.table_id ≡ learner.old.table_id) × (learner.new.id ≡ learner.old.id) }
+        ensures teller { teller.new.me ≡ teller.old.me }
+        ensures learner { learner.new.me ≡ (settled_view (informed learner.old.me.0 (note_of teller.old.me.0)), learner.old.me.1) }
+        ensures seen { IsLonger learner.old.me.0.seen teller.old.me.0.seen learner.new.me.0.seen }
+        ensures whole { IsWholeView learner.new.me.0 }
+    {
+        let note = self.table.shared.split_seat::<Note>(teller);
+        self.table.shared.join_seat::<Inform<O>>(learner, note);
+        self.table.shared.load::<Settle>(learner, COUNT);
     }
 }

@@ -1,6 +1,7 @@
 //! The turn.
-ghost use Rattle.std.specs.Prelude.{◌≡◌, [], IfOk, IfErr, IsOk};
-ghost use Rattle.ig_turn.specs.History.{IsOf, IsLegal, IsWholeSeat, Adds, opened};
+ghost use Rattle.std.specs.Prelude.{◌≡◌, ◌<◌, [], All, IfOk, IfErr, IsOk};
+ghost use mathlib.Core.List.{IsPrefix};
+ghost use Rattle.ig_turn.specs.History.{IsOf, IsLegal, IsLonger, IsWholeSeat, Adds, opened, with_born, newcomer, joined_with, with_seen};
 
 use crate::desk::Desk;
 use crate::plain::Plain;
@@ -55,5 +56,47 @@ impl<O: Plain> Turn<O> {
         ensures whole { IsWholeSeat seat.new }
     {
         self.desk.call(rt, &mut seat.place, ask)
+    }
+
+    /// A new seat, for another caller. It has seen what this one has, and done nothing.
+    /// Once 2^62 numbers were drawn it never returns.
+    pub fn split<R: Wait>(&self, rt: &R, seat: &mut TurnSeat<O>) -> TurnSeat<O>
+        requires own { IsOf self.now seat.old }
+        ensures own { IsOf self.now seat.new × IsOf self.now result }
+        ensures seat { seat.new ≡ with_born seat.old result.number }
+        ensures result { result ≡ newcomer seat.old result.number }
+        ensures above { (seat.old.number < result.number) × All (λ n. n < result.number) seat.old.born }
+        ensures legal { IsLegal O.runs seat.new × IsLegal O.runs result }
+        ensures whole { IsWholeSeat seat.new × IsWholeSeat result }
+    {
+        let (number, place) = self.desk.split(rt, &mut seat.place);
+        TurnSeat { number, place }
+    }
+
+    /// The other seat ends. This one has seen what either has, and keeps what the other did under its number.
+    pub fn join(&self, seat: &mut TurnSeat<O>, other: TurnSeat<O>)
+        requires own { IsOf self.now seat.old × IsOf self.now other }
+        ensures own { IsOf self.now seat.new }
+        ensures seat { seat.new ≡ joined_with seat.old other seat.new.seen }
+        ensures seen { IsLonger seat.old.seen other.seen seat.new.seen }
+        ensures legal { IsLegal O.runs seat.new }
+        ensures whole { IsWholeSeat seat.new }
+    {
+        let TurnSeat { number: _, place } = other;
+        self.desk.join(&mut seat.place, place);
+    }
+
+    /// The learner has seen what either has.
+    pub fn meet(&self, teller: &mut TurnSeat<O>, learner: &mut TurnSeat<O>)
+        requires own { IsOf self.now teller.old × IsOf self.now learner.old }
+        ensures own { IsOf self.now teller.new × IsOf self.now learner.new }
+        ensures teller { teller.new ≡ teller.old }
+        ensures learner { learner.new ≡ with_seen learner.old learner.new.seen }
+        ensures seen { IsLonger learner.old.seen teller.old.seen learner.new.seen }
+        ensures told { IsPrefix teller.new.seen learner.new.seen }
+        ensures legal { IsLegal O.runs learner.new }
+        ensures whole { IsWholeSeat learner.new }
+    {
+        self.desk.meet(&mut teller.place, &mut learner.place);
     }
 }
