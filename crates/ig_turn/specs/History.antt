@@ -61,7 +61,7 @@ module _ {X A G : Type 0} where
   pub record Adds (s t : SeatState X A G) (ask : A) (got : G) : Type 0 where
     pub between : List (Entry A G)
     pub seen : t.seen ≡ (s.seen ++ between) ++ entry s.number ask got ∷ []
-    pub rest : t ≡ record s { seen = t.seen; own = s.own ++ entry s.number ask got ∷ [] }
+    pub kept : t ≡ record s { seen = t.seen; own = s.own ++ entry s.number ask got ∷ [] }
 
   -- the seat with one more number in its `born`
   abbrev pub with_born : SeatState X A G → ℕ → SeatState X A G

@@ -1,3 +1,4 @@
+pub use Rattle.atomic_table.specs.Seated
 pub mod States
 pub mod History
 pub mod Rule

@@ -262,6 +262,7 @@ impl<O: Plain> Desk<O> {
         requires idle { (place.old.me.0.stage ≡ Idle) × (place.old.me.0.live ≡ true) }
         ensures id { (place.new.table_id ≡ place.old.table_id) × (place.new.id ≡ place.old.id) }
         ensures drawn { place.new.me ≡ (record place.old.me.0 { stage = Drawn result; born = place.old.me.0.born ++ result ∷ [] }, place.old.me.1) }
+        ensures below { result < MOST }
         ensures above { (place.old.me.0.number < result) × Each (λ n. n < result) place.old.me.0.born }
         ensures unused { under result place.old.me.0.seen ≡ [] }
     {
@@ -291,6 +292,7 @@ impl<O: Plain> Desk<O> {
         ensures id { (place.new.table_id ≡ place.old.table_id) × (place.new.id ≡ place.old.id) × (result.1.table_id ≡ place.old.table_id) }
         ensures left { place.new.me ≡ (record place.old.me.0 { stage = Idle; born = place.old.me.0.born ++ result.0 ∷ [] }, place.old.me.1) }
         ensures right { result.1.me ≡ (split_right (staged place.old.me.0 (Drawn result.0)), []) }
+        ensures below { result.0 < MOST }
         ensures above { (place.old.me.0.number < result.0) × Each (λ n. n < result.0) place.old.me.0.born }
         ensures rest { IsAtRest O.runs place.new.me.0 × IsAtRest O.runs result.1.me.0 }
     {

@@ -1,5 +1,5 @@
 //! The turn.
-ghost use Rattle.std.specs.Prelude.{◌≡◌, ◌<◌, [], All, IfOk, IfErr, IsOk};
+ghost use Rattle.std.specs.Prelude.{◌≡◌, ◌<◌, ◌^◌, [], All, IfOk, IfErr, IsOk};
 ghost use mathlib.Core.List.{IsPrefix};
 ghost use Rattle.ig_turn.specs.History.{IsOf, IsLegal, IsLonger, IsWholeSeat, Adds, opened, with_born, newcomer, joined_with, with_seen};
 
@@ -66,6 +66,7 @@ impl<O: Plain> Turn<O> {
         ensures seat { seat.new ≡ with_born seat.old result.number }
         ensures result { result ≡ newcomer seat.old result.number }
         ensures above { (seat.old.number < result.number) × All (λ n. n < result.number) seat.old.born }
+        ensures below { result.number < 2 ^ 62 }
         ensures legal { IsLegal O.runs seat.new × IsLegal O.runs result }
         ensures whole { IsWholeSeat seat.new × IsWholeSeat result }
     {
