@@ -4,3 +4,4 @@ pub mod Calls
 pub mod Seats
 pub mod Opens
 pub mod Wholes
+pub mod Cells

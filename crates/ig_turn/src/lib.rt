@@ -5,6 +5,8 @@ mod desk;
 mod plain;
 mod rule;
 mod seat;
+#[cfg(test)]
+mod tests;
 mod turn;
 mod view;
 
