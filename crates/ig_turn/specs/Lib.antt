@@ -3,3 +3,4 @@ pub mod States
 pub mod History
 pub mod Rule
 pub mod Steps
+pub mod Cells

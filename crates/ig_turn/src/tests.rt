@@ -36,8 +36,10 @@ fn empty(alloc: Global, refuses: bool) -> Cells
 }
 
 impl Plain for Cells {
-    ghost use Rattle.std.specs.Prelude.{◌≡◌, List, [], ℤ};
-    ghost use Rattle.ig_turn.proofs.Cells.{RunsFrom, StandsFor, runs_front};
+    ghost use Rattle.std.specs.Prelude.{◌≡◌, List, [], ℤ, FitsSigned};
+    ghost use Rattle.std.specs.Int.{w32};
+    ghost use Rattle.std.specs.Option.{ForSome};
+    ghost use Rattle.ig_turn.specs.Cells.{RunsFrom, StandsFor, runs_front};
 
     type Ask = Ask;
     type Got = Got;
@@ -57,7 +59,7 @@ impl Plain for Cells {
 
     ghost any_start = { [] };
 
-    ghost fits = { λ _. Unit {0} };
+    ghost fits = { λ ask. FitsSigned w32 ask.0 × ForSome ask.1 (λ value. FitsSigned w32 value) };
 
     ghost is_sure = { λ _. ⊥ };
 
@@ -203,15 +205,13 @@ fn eight_threads(rt: HostRuntime) -> Result<(), Fail> {
     join_all(&turn, &mut seat, workers, &mut calls)?;
     calls.sort()?;
     let mut map = BTreeMap::new(rt.alloc());
-    let mut place = 0;
-    for call in &calls {
+    for (place, call) in calls.iter().enumerate() {
         let old = match call.value {
             None => map.get(&call.key).copied(),
             Some(value) => map.insert(call.key, value)?,
         };
-        assert_eq!(rt; (place, old), (call.place, call.old));
-        place += 1;
+        assert_eq!(rt; (place as u64, old), (call.place, call.old));
     }
-    assert_eq!(rt; place, 8000);
+    assert_eq!(rt; calls.len(), 8000);
     Ok(())
 }
