@@ -7,6 +7,7 @@ ghost use Rattle.ig_turn.specs.History.{pairs_of, under, IsLonger};
 ghost use Rattle.ig_turn.specs.Rule.{Each};
 ghost use Rattle.ig_turn.specs.Steps.{opening_view, split_right, settled_view, glued, informed, note_of, IsAtRest, staged, committed_view, held_ticket, held_list, IsHolding, IsWholeView, IsLegalView, Carries, AddsView};
 
+use crate::bell::Bell;
 use crate::plain::Plain;
 use crate::rule::{Commit, Cut, DrawNumber, DrawTicket, Glue, InTurn, Inform, Made, Note, Pass, Settle, TakeObject};
 use crate::view::View;
@@ -17,8 +18,6 @@ use std::hint;
 use std::marker::Brand;
 use std::snapshot::Snapshot;
 use std::sync::Wait;
-use std::sync::atomic::AtomicU64;
-use std::sync::atomic::Ordering::SeqCst;
 use std::thread;
 
 /// The next ticket.
@@ -36,7 +35,7 @@ pub(crate) const SEATS: usize = 3;
 /// No ticket and no number is drawn from here on.
 pub(crate) const MOST: u64 = 1 << 62;
 
-// How often a call looks again before it sleeps.
+// How often a call looks before it sleeps.
 const LOOKS: u32 = 100;
 
 const OBJECT: usize = 0;
@@ -52,8 +51,7 @@ pub(crate) type Place<O> = Seat<
 #[derive(Drop)]
 pub(crate) struct Desk<O: Plain> {
     pub(crate) table: Table<O, View<O::Start, O::AskData, O::GotData>, Snapshot<O>, InTurn, Global>,
-    // 1 where a call may sleep.
-    asleep: AtomicU64,
+    bell: Bell,
     pub ghost sized: { (table.shared.table_id.words ≡ 4) × (table.shared.table_id.slots ≡ 1) },
 }
 
@@ -83,7 +81,7 @@ impl<O: Plain> Desk<O> {
             Ok((table, place)) => Ok((
                 Desk {
                     table,
-                    asleep: AtomicU64::new(0),
+                    bell: Bell::new(),
                 },
                 place,
             )),
@@ -137,14 +135,9 @@ impl<O: Plain> Desk<O> {
             }
             hint::spin_loop();
         }
-        self.asleep.store(1, SeqCst);
-        let serving = self.table.shared.peek(SERVING);
-        if self.table.shared.peek(TICKET) != serving || serving >= MOST {
-            self.table
-                .shared
-                .park(rt, SERVING, (serving & LOW_BITS) as u32);
-            // Others may sleep still.
-            self.asleep.store(1, SeqCst);
+        let mark = self.bell.ask();
+        if self.free_ticket().is_none() {
+            self.bell.sleep(rt, mark);
         }
     }
 
@@ -251,9 +244,7 @@ impl<O: Plain> Desk<O> {
         ensures passed { place.new.me ≡ (staged place.old.me.0 Idle, []) }
     {
         self.table.shared.fetch_add::<Pass>(place, SERVING, 1);
-        if self.asleep.load(SeqCst) != 0 && self.asleep.swap(0, SeqCst) != 0 {
-            self.table.shared.wake_one(SERVING);
-        }
+        self.bell.ring();
     }
 
     // Draws a number for a new seat. Where none is left it waits for ever.

@@ -1,6 +1,7 @@
 //! An object that many threads call, one at a time, and the history of its calls.
 #![tactic(auto)]
 
+mod bell;
 mod desk;
 mod plain;
 mod rule;
