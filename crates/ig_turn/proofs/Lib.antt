@@ -5,3 +5,4 @@ pub mod Seats
 pub mod Opens
 pub mod Wholes
 pub mod Cells
+pub mod TwoCalls

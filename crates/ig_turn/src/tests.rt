@@ -1,6 +1,6 @@
 //! A map of numbers behind a turn.
-ghost use Rattle.std.specs.Prelude.{◌≡◌, [], All, IfOk};
-ghost use Rattle.ig_turn.specs.History.{IsOf};
+ghost use Rattle.std.specs.Prelude.{◌≡◌, ◌<◌, pos, [], ◌∷◌, All, IfOk, IfSome};
+ghost use Rattle.ig_turn.specs.History.{IsOf, entry, ended, opened, newcomer, with_born};
 
 use crate::{Plain, Turn, TurnSeat};
 use ig_base::NoRoom;
@@ -182,17 +182,36 @@ fn one_thread(rt: HostRuntime) -> Result<(), Fail> {
     Ok(())
 }
 
+// The first seat of a turn puts a value and tells the other one, which looks it up and is joined. The history is these calls.
+fn put_and_get<R: Wait>(
+    rt: &R,
+    turn: &Turn<Cells>,
+    a: &mut TurnSeat<Cells>,
+    mut b: TurnSeat<Cells>,
+) -> Option<(Got, Got)>
+    requires a { a.old ≡ with_born (opened turn.now) b.number }
+    requires b { (b ≡ newcomer (opened turn.now) b.number) × (0 < b.number) }
+    ensures seen { IfSome result (λ got. a.new.seen ≡ entry 0 (pos 1, Some (pos 2)) got.0 ∷ entry b.number (pos 1, None) got.1 ∷ []) }
+    ensures ended { IfSome result (λ got. a.new.ended ≡ ended b.number (entry b.number (pos 1, None) got.1 ∷ []) ∷ []) }
+{
+    let Ok(put) = turn.run(rt, a, (1, Some(2))) else {
+        return None;
+    };
+    turn.meet(a, &mut b);
+    let Ok(got) = turn.run(rt, &mut b, (1, None)) else {
+        return None;
+    };
+    turn.join(a, b);
+    Some((put, got))
+}
+
 #[test]
 fn two_seats(rt: HostRuntime) -> Result<(), Fail> {
     let (turn, mut a) = Turn::new(rt.alloc(), empty(rt.alloc(), false)).map_err(|_| "memory")?;
-    let mut b = turn.split(&rt, &mut a);
-    let put = turn.run(&rt, &mut a, (1, Some(2)));
-    assert!(rt; matches!(put, Ok((0, None))));
-    turn.meet(&mut a, &mut b);
-    let got = turn.run(&rt, &mut b, (1, None));
-    assert!(rt; matches!(got, Ok((1, Some(2)))));
+    let b = turn.split(&rt, &mut a);
     assert_eq!(rt; (a.number(), b.number()), (0, 1));
-    turn.join(&mut a, b);
+    let got = put_and_get(&rt, &turn, &mut a, b);
+    assert_eq!(rt; got, Some(((0, None), (1, Some(2)))));
     Ok(())
 }
 
