@@ -1,7 +1,7 @@
 -- What one view knows, after a step of another or of its own.
-use Rattle.std.proofs.Common.{◌≡◌, ◌≢◌, ◌⊎◌, ℕ, suc, zero, ◌+◌, ◌<◌, ◌≤◌, eqb, Bool, true, false, cond, List, [], ◌∷◌, ◌++◌, map, length, get_or, set, refl, sym, ap, ◌∙◌, subst, inl, inr, ⊎_elim, arith, eq-eqb, ne_eqb}
-use mathlib.Core.Option.{Option, some, none}
-use mathlib.Core.List.{IsPrefix, map-append}
+use Rattle.std.proofs.Common.{◌≡◌, ◌≢◌, ℕ, ◌+◌, ◌<◌, ◌≤◌, eqb, Bool, cond, List, [], ◌∷◌, ◌++◌, map, set, refl, sym, ap, ◌∙◌, subst, inl, inr, ⊎_elim, arith, eq-eqb, ne_eqb}
+use mathlib.Core.Option.{some}
+use mathlib.Core.List.{map-append}
 use mathlib.Core.Logic.{dite}
 use native.Mathlib.Decide.{ℕ_discrete}
 use lib.ListN.{get_elem?}
@@ -10,11 +10,9 @@ use Rattle.ig_turn.specs.declared.view.Entry.{Entry}
 use Rattle.ig_turn.specs.declared.view.Ended.{Ended}
 use Rattle.ig_turn.specs.declared.view.Stage.{Stage}
 use Rattle.ig_turn.specs.declared.view.Stage.TheVariants.{Idle, Waiting, Holding, Drawn}
-use Rattle.ig_turn.specs.declared.view.View.{View}
-use Rattle.ig_turn.specs.History.{under, entry, ended, pairs_of}
-use Rattle.ig_turn.specs.Rule.{Phase, home, out, Board, Has, Apart, Each, number_of, drawn_of, parts_of, HasTicket, StageFits, HolderFits, Tickets, Numbers, Knows}
-use Rattle.ig_turn.specs.Steps.{staged}
-use Rattle.ig_turn.proofs.Lists.{prefix_more, each_append, each_weaker, each_both, each_has, each_from_has, has_left, has_right, has_cases, apart_append, under-other, under-same}
+use Rattle.ig_turn.specs.History.{under, entry, ended}
+use Rattle.ig_turn.specs.Rule.{Phase, home, out, Board, Has, Apart, Each, number_of, StageFits, HolderFits, Tickets, Numbers}
+use Rattle.ig_turn.proofs.Lists.{each_append, each_weaker, each_both, each_has, has_left, has_right, has_cases, apart_append, under-other, under-same}
 
 -- the function f, but x at k
 abbrev pub put : (ℕ → ℕ) → ℕ → ℕ → ℕ → ℕ
@@ -196,9 +194,12 @@ module _ {A G : Type 0} where
       kin = λ n low high is. dite (ℕ_discrete n seats) (λ e. absurd (ne (sym is ∙ (ap (λ (z : ℕ). put owner seats id (put parent seats m z)) e ∙ drawer))))
           (λ other. k.kin n low (omega arith) (kin_drawn j n low (omega arith) is));
       below = each_weaker _ _ (λ n less. omega arith) born k.below;
-      childless = each_both _ _ _ (λ d f less. (put_else owner seats id d (λ e. omega arith) ∙ f.0, λ n low high is. dite (ℕ_discrete n seats)
-          (λ e. ne (sym f.0 ∙ (ap owner (sym is ∙ (ap (put parent seats m) e ∙ put_here parent seats m)) ∙ mine)))
-          (λ other. f.1 n low (omega arith) (sym (put_else parent seats m n other) ∙ is)))) drawn k.childless small;
+      childless = each_both _ _ _ (λ d f less. (
+        put_else owner seats id d (λ e. omega arith) ∙ f.0,
+        λ n low high is. dite (ℕ_discrete n seats)
+            (λ e. ne (sym f.0 ∙ (ap owner (sym is ∙ (ap (put parent seats m) e ∙ put_here parent seats m)) ∙ mine)))
+            (λ other. f.1 n low (omega arith) (sym (put_else parent seats m n other) ∙ is)),
+      )) drawn k.childless small;
     }
 
     pub numbers_drawing : (own : List (Entry A G)) (joined : List (Ended A G)) (born : List ℕ) → under seats log ≡ [] → Numbers seats owner parent log id [] (ended m own ∷ joined) born
@@ -210,9 +211,15 @@ module _ {A G : Type 0} where
       kin = λ n low high is. dite (ℕ_discrete n seats) (λ e. has_right born (seats ∷ []) n (inl (sym e)))
           (λ other. has_left born (seats ∷ []) n (k.kin n low (omega arith) (kin_drawn id n low (omega arith) is)));
       below = each_append _ born (seats ∷ []) (each_weaker _ _ (λ n less. omega arith) born k.below) (omega arith, tt);
-      childless = ((put_here owner seats id, λ n low high is. dite (ℕ_discrete n seats)
-          (λ e. let f : m ≡ seats = sym (put_here parent seats m) ∙ (ap (put parent seats m) (sym e) ∙ is) in omega arith)
-          (λ other. let f : parent n ≡ seats = sym (put_else parent seats m n other) ∙ is in let less = older n low (omega arith) in omega arith)), tt);
+      childless = (
+        (
+          put_here owner seats id,
+          λ n low high is. dite (ℕ_discrete n seats)
+              (λ e. let f : m ≡ seats = sym (put_here parent seats m) ∙ (ap (put parent seats m) (sym e) ∙ is) in omega arith)
+              (λ other. let f : parent n ≡ seats = sym (put_else parent seats m n other) ∙ is in let less = older n low (omega arith) in omega arith),
+        ),
+        tt,
+      );
     }
 
   -- the number n, which the view id drew, went to the view fresh

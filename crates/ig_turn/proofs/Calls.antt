@@ -1,5 +1,5 @@
 -- The steps of a call keep the rule.
-use Rattle.std.proofs.Common.{◌≡◌, ◌≢◌, ◌⊎◌, ℕ, suc, zero, ◌+◌, ◌%◌, ◌^◌, ◌<◌, ◌≤◌, eqb, Bool, true, false, cond, List, [], ◌∷◌, ◌++◌, map, length, get_or, set, refl, sym, ap, ◌∙◌, subst, inl, inr, ⊎_elim, arith, eq-eqb, ne_eqb, length-set, length-append}
+use Rattle.std.proofs.Common.{◌≡◌, ◌⊎◌, ℕ, suc, zero, ◌+◌, ◌%◌, ◌^◌, ◌<◌, ◌≤◌, eqb, Bool, true, cond, List, [], ◌∷◌, ◌++◌, map, length, get_or, set, refl, sym, ap, ◌∙◌, subst, inl, inr, arith, eq-eqb, ne_eqb, length-set, length-append}
 use mathlib.Core.Option.{Option, some, none, some-ne-none}
 use mathlib.Core.List.{IsPrefix}
 use mathlib.Core.Logic.{dite}
@@ -7,20 +7,19 @@ use native.Mathlib.Decide.{ℕ_discrete, dec_lt}
 use lib.ListN.{get_elem?}
 use lib.Seq.{set-get_or}
 use prog.Atomic.{either}
-use Rattle.std.specs.List.{All, Contains}
 use Rattle.std.specs.Prelude.{slice_index_or}
-use Rattle.atomic_table.specs.Table.{State, Me, step, keeps, takes, gives, rest, put_back, stepped, Allows, Act, Valid, carried_after}
+use Rattle.atomic_table.specs.Table.{State, Me, step, keeps, takes, gives, rest, stepped, Allows, Act, Valid, carried_after}
 use Rattle.atomic_table.proofs.Lists.{set_again}
 use Rattle.ig_turn.specs.declared.view.Entry.{Entry}
 use Rattle.ig_turn.specs.declared.view.Ended.{Ended}
 use Rattle.ig_turn.specs.declared.view.Stage.{Stage}
-use Rattle.ig_turn.specs.declared.view.Stage.TheVariants.{Idle, Waiting, Holding, Drawn}
+use Rattle.ig_turn.specs.declared.view.Stage.TheVariants.{Idle, Waiting, Holding}
 use Rattle.ig_turn.specs.declared.view.View.{View}
 use Rattle.ig_turn.specs.History.{under, entry, ended, pairs_of, numbers_of, IsWhole}
-use Rattle.ig_turn.specs.Rule.{Phase, home, out, Board, Has, Apart, Each, number_of, drawn_of, parts_of, homes_of, commits_of, words_of, HasTicket, StageFits, HolderFits, Tickets, Numbers, Knows, ObjectFits, Ordered}
+use Rattle.ig_turn.specs.Rule.{Phase, home, out, Board, Has, Each, number_of, drawn_of, parts_of, homes_of, commits_of, HolderFits, Tickets, Numbers, Knows, ObjectFits, Ordered}
 use Rattle.ig_turn.specs.Steps.{staged, held_ticket, held_list, committed_view, IsWholeView, draws_ticket, takes_object, commits, passes}
 use Rattle.ig_turn.proofs.Lists.{prefix_refl, prefix_more, each_weaker, each_has, each_in, all_from_each, each_from_all, has_from_contains, contains_from_has, distinct_from_apart, under_some, under-other}
-use Rattle.ig_turn.proofs.Boards.{put, put_here, put_else, views_set, idle_or_holding, waiting_or_holding, with_ticket, with_phase, with_entry, with_next, tickets_drawn, tickets_mine, tickets_taken, tickets_taking, tickets_logged, tickets_logging, tickets_passed, tickets_passing, numbers_logged, numbers_logging}
+use Rattle.ig_turn.proofs.Boards.{put, put_here, put_else, views_set, waiting_or_holding, with_ticket, with_phase, with_entry, with_next, tickets_drawn, tickets_mine, tickets_taken, tickets_taking, tickets_logged, tickets_logging, tickets_passed, tickets_passing, numbers_logged, numbers_logging}
 
 pub at_bound : {T : Type 0} (l : List T) (i : ℕ) (x : T) → get_elem? l i ≡ some x → i < length l
 at_bound [] i x e = absurd (some-ne-none x (sym e))
@@ -69,7 +68,7 @@ module _ {A G : Type 0} where
     different = distinct_from_apart (numbers_of number joined) k.different;
     all_known = λ zeroth every. let ns : List ℕ = numbers_of number joined in
         let all = every_entry seats owner parent log j (ended number own ∷ joined) born k older (has_from_contains ns 0 zeroth)
-            (each_weaker _ _ (λ n c. has_from_contains ns n c) born (each_from_all _ born every)) fresh in
+        (each_weaker _ _ (λ n c. has_from_contains ns n c) born (each_from_all _ born every)) fresh in
         all_from_each _ seen (each_weaker _ _ (λ e h. contains_from_has ns e.number h) seen (each_front _ seen log front all));
   }
 
@@ -256,9 +255,10 @@ module _ {O X A G : Type 0} (stands : O → X → List (A × G) → Type 0) (sta
         got.1,
         got.2,
         got.3,
-        λ u waits'. let same : t ≡ u = ap ticket_of (sym waits ∙ waits') in
-            ((λ _. subst (λ (z : ℕ). Took s r id me.0 at me.1 z (got.0, carried_after me.1 got.1)) same got.4),
-            λ ne. absurd (ne (hit ∙ same))),
+        λ u waits'. let same : t ≡ u = ap ticket_of (sym waits ∙ waits') in (
+          (λ _. subst (λ (z : ℕ). Took s r id me.0 at me.1 z (got.0, carried_after me.1 got.1)) same got.4),
+          λ ne. absurd (ne (hit ∙ same)),
+        ),
       ))
       (λ miss. (
         me.0,

@@ -1,16 +1,14 @@
 -- Beginnings of a list, the entries under a number, and numbers that all differ.
-use Rattle.std.proofs.Common.{◌≡◌, ◌≢◌, ◌⊎◌, ℕ, suc, zero, ◌+◌, ◌<◌, ◌≤◌, eqb, Bool, true, false, cond, List, [], ◌∷◌, ◌++◌, map, length, get_or, refl, sym, ap, ◌∙◌, subst, inl, inr, ⊎_elim, arith, append_assoc, length-append, eq-eqb, ne_eqb}
-use Rattle.std.specs.List.{All, Contains, filter, IsDistinct, AllByRecursion}
-use Rattle.std.specs.Prelude.{nat_eq, slice_index_or}
-use Rattle.std.proofs.lemmas.List.Elements.{filter-append, All-cons, All-nil, All-append}
+use Rattle.std.proofs.Common.{◌≡◌, ◌≢◌, ◌⊎◌, ℕ, suc, zero, ◌≤◌, eqb, Bool, false, cond, List, [], ◌∷◌, ◌++◌, map, length, refl, sym, ap, ◌∙◌, subst, inl, inr, ⊎_elim, arith, append_assoc, length-append, eq-eqb, ne_eqb}
+use Rattle.std.specs.List.{All, Contains, IsDistinct, AllByRecursion}
+use Rattle.std.specs.Prelude.{nat_eq}
+use Rattle.std.proofs.lemmas.List.Elements.{filter-append, All-cons, All-nil}
 use mathlib.Core.List.{IsPrefix, append-nil}
 use mathlib.Core.Logic.{dite}
 use native.Mathlib.Decide.{ℕ_discrete}
 use Rattle.ig_turn.specs.declared.view.Entry.{Entry}
-use Rattle.ig_turn.specs.declared.view.Ended.{Ended}
-use Rattle.ig_turn.specs.History.{under, entry, IsLonger}
-use Rattle.ig_turn.specs.Rule.{Has, Apart, Each, number_of}
-use Rattle.ig_turn.specs.Steps.{longer_of}
+use Rattle.ig_turn.specs.History.{under, entry}
+use Rattle.ig_turn.specs.Rule.{Has, Apart, Each}
 
 module _ {T : Type 0} where
   pub prefix_refl : (xs : List T) → IsPrefix xs xs
@@ -136,7 +134,7 @@ module _ {A G : Type 0} where
 
   pub under_none : (n : ℕ) (xs zs : List (Entry A G)) → IsPrefix xs zs → under n zs ≡ [] → under n xs ≡ []
   under_none n xs zs p e = let a = prefix_length (under n xs) (under n zs) (under_prefix n xs zs p) in
-      prefix_whole (under n xs) [] (subst (IsPrefix (under n xs)) e (under_prefix n xs zs p)) (omega arith) 
+      prefix_whole (under n xs) [] (subst (IsPrefix (under n xs)) e (under_prefix n xs zs p)) (omega arith)
 
   -- an entry's number has an entry under it
   pub under_some : (xs : List (Entry A G)) → Each (λ e. under e.number xs ≡ [] → ⊥) xs

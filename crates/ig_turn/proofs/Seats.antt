@@ -1,13 +1,12 @@
 -- The steps by which seats are made, joined and told keep the rule.
 use Rattle.std.proofs.Common.{◌≡◌, ◌≢◌, ◌⊎◌, ℕ, suc, zero, ◌+◌, ◌^◌, ◌<◌, ◌≤◌, eqb, Bool, true, false, cond, List, [], ◌∷◌, ◌++◌, map, length, get_or, set, refl, sym, ap, ◌∙◌, subst, inl, inr, ⊎_elim, arith, eq-eqb, ne_eqb, length-set, length-append, lt-ltb, le-ltb}
-use mathlib.Core.Option.{Option, some, none, some-injective, some-ne-none}
+use mathlib.Core.Option.{some, none, some-injective, some-ne-none}
 use mathlib.Core.List.{IsPrefix}
 use mathlib.Core.Logic.{dite}
 use native.Mathlib.Decide.{ℕ_discrete, dec_lt}
 use lib.ListN.{get_elem?}
 use lib.Seq.{set-get_or}
 use prog.Atomic.{either}
-use Rattle.std.specs.Prelude.{nat_lt}
 use Rattle.atomic_table.specs.Table.{State, Me, step, keeps, stepped, Allows, Splits, Joins}
 use Rattle.atomic_table.proofs.Lists.{at_set, set_again}
 use Rattle.ig_turn.specs.declared.view.Entry.{Entry}
@@ -15,13 +14,12 @@ use Rattle.ig_turn.specs.declared.view.Ended.{Ended}
 use Rattle.ig_turn.specs.declared.view.Stage.{Stage}
 use Rattle.ig_turn.specs.declared.view.Stage.TheVariants.{Idle, Waiting, Holding, Drawn}
 use Rattle.ig_turn.specs.declared.view.View.{View}
-use Rattle.ig_turn.specs.History.{under, entry, ended, pairs_of, numbers_of, IsWhole, IsLonger}
-use Rattle.ig_turn.specs.Rule.{Phase, home, out, Board, Has, Apart, Each, number_of, drawn_of, parts_of, HasTicket, StageFits, HolderFits, Tickets, Numbers, Knows, ObjectFits, Ordered}
-use Rattle.ig_turn.specs.Steps.{staged, lifeless, IsWholeView, longer_of, settled_view, split_left, split_right, note_of, glued, informed, KeepsParts, draws_number, settles}
-use Rattle.ig_turn.proofs.Lists.{prefix_refl, prefix_both, prefix_trans, each_weaker, each_both, each_has, under_between, under_none}
+use Rattle.ig_turn.specs.History.{ended, IsLonger}
+use Rattle.ig_turn.specs.Rule.{Phase, home, out, Board, Each, drawn_of, parts_of, StageFits, HolderFits, Tickets, Numbers, Knows, ObjectFits, Ordered}
+use Rattle.ig_turn.specs.Steps.{staged, lifeless, longer_of, settled_view, split_left, split_right, note_of, glued, informed, draws_number, settles}
+use Rattle.ig_turn.proofs.Lists.{prefix_refl, prefix_both, each_weaker, each_both, under_between, under_none}
 use Rattle.ig_turn.proofs.Boards.{put, put_here, put_else, views_set, numbers_drawn, numbers_drawing, numbers_split, numbers_left, numbers_right, numbers_none, moved, idle_or_holding, numbers_moved, numbers_spent, numbers_joined}
 use Rattle.ig_turn.proofs.Calls.{at_bound, at_stage, numbers_at, numbers_back, served, short_log, unmoved, still_there, whole_from}
-
 
 module _ {T : Type 0} where
   at_end : (l : List T) (x y : T) (j : ℕ) → get_elem? (l ++ x ∷ []) j ≡ some y → ((j < length l) × (get_elem? l j ≡ some y)) ⊎ ((j ≡ length l) × (x ≡ y))
@@ -149,8 +147,8 @@ module _ {O X A G : Type 0} (stands : O → X → List (A × G) → Type 0) (sta
                 starts = k.starts;
               }
               (λ j u ne here. let h = r.each_view j u here in stays b (b.seats + 1) owner parent j u h
-                  (numbers_drawn b.seats b.owner b.parent b.log id v.number r.older f.0 f.1 j (drawn_of u.stage) (parts_of u) u.born ne
-                  (each_weaker _ _ (λ d g. g.1) (drawn_of u.stage) (each_drawn _ (drawn_of u.stage) (cond u.live (ended u.number u.own ∷ u.ended) []) h.numbers.each)) h.numbers));
+              (numbers_drawn b.seats b.owner b.parent b.log id v.number r.older f.0 f.1 j (drawn_of u.stage) (parts_of u) u.born ne
+              (each_weaker _ _ (λ d g. g.1) (drawn_of u.stage) (each_drawn _ (drawn_of u.stage) (cond u.live (ended u.number u.own ∷ u.ended) []) h.numbers.each)) h.numbers));
           holders = λ t low high. still_there stands start s id w (b.whose t) (r.holders t low high);
           owners = λ m high. still_there stands start s id w (owner m) (dite (ℕ_discrete m b.seats)
               (λ e. subst (λ (z : ℕ). z < length s.views) (sym (ap owner e ∙ put_here b.owner b.seats id)) (at_bound s.views id v at))
@@ -282,7 +280,7 @@ module _ {O X A G : Type 0} (stands : O → X → List (A × G) → Type 0) (sta
   pub splits_seat : (id n : ℕ) (v : V) → v.stage ≡ Drawn n → v.live ≡ true → Splits Rule id v (split_left v) (split_right v)
   splits_seat id n v drawn alive s r at = let same : v ≡ staged v (Drawn n) = at_stage stands start v (Drawn n) drawn in
       subst (λ (z : V). Rule record { words = s.words; homes = s.homes; views = set s.views id (split_left z) ++ split_right z ∷ [] }) (sym same)
-          (split_at id n v alive s r (subst (λ (z : V). get_elem? s.views id ≡ some z) same at))
+      (split_at id n v alive s r (subst (λ (z : V). get_elem? s.views id ≡ some z) same at))
 
   still_both : (s : St) (id other i : ℕ) (v w : V) → i < length s.views → i < length (set (set s.views id v) other w)
   still_both s id other i v w lt = omega (arith, length-set (set s.views id v) other w, length-set s.views id v)
@@ -321,49 +319,49 @@ module _ {O X A G : Type 0} (stands : O → X → List (A × G) → Type 0) (sta
       let owner : ℕ → ℕ = moved b.owner id other in let b' : Board O A G = renumbered b b.seats owner b.parent in let y : V = glued v w in
       let nums = numbers_joined b.seats b.owner b.parent b.log id other apart (ended v.number v.own) (ended w.number w.own) v.ended w.ended v.born w.born n n' in
       both_set s r b.seats owner b.parent id other y (lifeless x [])
-          record {
-            seen = k.seen;
-            met = h.seen;
-            tickets = tickets_kept b b.seats owner b.parent id v.stage k.tickets;
-            numbers = numbers_back stands start b' id y alive
-                (subst (λ (z : Stage A G). Numbers b.seats owner b.parent b.log id (drawn_of z) (map (λ m. ended m []) (drawn_of z) ++ (ended v.number v.own ∷ y.ended)) y.born) (sym idle) nums);
-            starts = k.starts;
-          }
-          record {
-            seen = (b.log, refl);
-            met = (b.log, refl);
-            tickets = tickets_kept b b.seats owner b.parent other Idle (idle_tickets b other w idle' h);
-            numbers = numbers_spent b.seats b.owner b.parent b.log id other apart;
-            starts = λ e. cc;
-          }
-          (λ j u ne ne' at'. let g = r.each_view j u at' in stays b b.seats owner b.parent j u g
-              (numbers_moved b.seats b.owner b.parent b.log id other apart j (drawn_of u.stage) (parts_of u) u.born ne ne' g.numbers))
-          refl refl
-          (λ m high. dite (ℕ_discrete (b.owner m) other)
-              (λ e. let is : owner m ≡ id = ap (λ (c : Bool). cond c id (b.owner m)) (eq-eqb (b.owner m) other e) in omega (arith, at_bound s.views id v at))
-              (λ not. let is : owner m ≡ b.owner m = ap (λ (c : Bool). cond c id (b.owner m)) (ne_eqb (b.owner m) other not) in omega (arith, r.owners m high)))
+      record {
+        seen = k.seen;
+        met = h.seen;
+        tickets = tickets_kept b b.seats owner b.parent id v.stage k.tickets;
+        numbers = numbers_back stands start b' id y alive
+            (subst (λ (z : Stage A G). Numbers b.seats owner b.parent b.log id (drawn_of z) (map (λ m. ended m []) (drawn_of z) ++ (ended v.number v.own ∷ y.ended)) y.born) (sym idle) nums);
+        starts = k.starts;
+      }
+      record {
+        seen = (b.log, refl);
+        met = (b.log, refl);
+        tickets = tickets_kept b b.seats owner b.parent other Idle (idle_tickets b other w idle' h);
+        numbers = numbers_spent b.seats b.owner b.parent b.log id other apart;
+        starts = λ e. cc;
+      }
+      (λ j u ne ne' at'. let g = r.each_view j u at' in stays b b.seats owner b.parent j u g
+      (numbers_moved b.seats b.owner b.parent b.log id other apart j (drawn_of u.stage) (parts_of u) u.born ne ne' g.numbers))
+      refl refl
+      (λ m high. dite (ℕ_discrete (b.owner m) other)
+      (λ e. let is : owner m ≡ id = ap (λ (c : Bool). cond c id (b.owner m)) (eq-eqb (b.owner m) other e) in omega (arith, at_bound s.views id v at))
+      (λ not. let is : owner m ≡ b.owner m = ap (λ (c : Bool). cond c id (b.owner m)) (ne_eqb (b.owner m) other not) in omega (arith, r.owners m high)))
 
   pub joins_note : (id : ℕ) (v : V) (other : ℕ) (w : V) (x : X) → w.stage ≡ Idle → w.live ≡ false → Joins Rule id v other w (informed v w) (lifeless x [])
   joins_note id v other w x idle lifeless_is s r at apart there = let b = r.board in let k = r.each_view id v at in let here = other_there s.views id other (informed v w) w apart there in let h = r.each_view other w here in
       let bare = subst (λ (z : Stage A G × Bool). Numbers b.seats b.owner b.parent b.log other (drawn_of z.0) (map (λ n. ended n []) (drawn_of z.0) ++ cond z.1 (ended w.number w.own ∷ w.ended) []) w.born)
-          (λ i. (idle i, lifeless_is i)) h.numbers in
+      (λ i. (idle i, lifeless_is i)) h.numbers in
       both_set s r b.seats b.owner b.parent id other (informed v w) (lifeless x [])
-          record {
-            seen = k.seen;
-            met = h.seen;
-            tickets = k.tickets;
-            numbers = k.numbers;
-            starts = k.starts;
-          }
-          record {
-            seen = (b.log, refl);
-            met = (b.log, refl);
-            tickets = idle_tickets b other w idle h;
-            numbers = numbers_none b.seats b.owner b.parent b.log other (λ m high is. bare.has m high is) r.older;
-            starts = λ e. cc;
-          }
-          (λ j u _ _ at'. r.each_view j u at')
-          refl refl r.owners
+      record {
+        seen = k.seen;
+        met = h.seen;
+        tickets = k.tickets;
+        numbers = k.numbers;
+        starts = k.starts;
+      }
+      record {
+        seen = (b.log, refl);
+        met = (b.log, refl);
+        tickets = idle_tickets b other w idle h;
+        numbers = numbers_none b.seats b.owner b.parent b.log other (λ m high is. bare.has m high is) r.older;
+        starts = λ e. cc;
+      }
+      (λ j u _ _ at'. r.each_view j u at')
+      refl refl r.owners
 
   pub settles_it : (slots id i : ℕ) (me : M) → me.0.stage ≡ Idle → me.0.live ≡ true → Allows Rule slots id me i (λ n. n) (settles (step slots i 0 0 none) me)
   settles_it slots id i me idle alive s r _ at _ = let b = r.board in let v : V = me.0 in let k = r.each_view id v at in let n = numbers_at stands start b id v Idle idle alive k in

@@ -1,14 +1,14 @@
 -- Two seats of a turn that no other seat calls: the second is told of the first one's call, makes its own, and is joined.
-use Rattle.std.proofs.Common.{◌≡◌, ◌≢◌, ◌⊎◌, ℕ, zero, ◌+◌, ◌<◌, ◌≤◌, Bool, cond, eqb, List, [], ◌∷◌, ◌++◌, length, refl, sym, ap, ◌∙◌, subst, inl, inr, ⊎_elim, arith, length-append, eq-eqb, ne_eqb}
+use Rattle.std.proofs.Common.{◌≡◌, ◌≢◌, ◌⊎◌, ℕ, ◌<◌, ◌≤◌, Bool, cond, List, [], ◌∷◌, ◌++◌, length, refl, sym, ap, ◌∙◌, subst, inl, inr, ⊎_elim, arith, length-append, eq-eqb, ne_eqb}
 use Rattle.std.specs.List.{All, Contains}
 use Rattle.std.proofs.lemmas.List.Elements.{All-nil, All-cons}
 use mathlib.Core.List.{append-nil}
 use Rattle.ig_turn.specs.declared.view.Entry.{Entry}
 use Rattle.ig_turn.specs.declared.view.Ended.{Ended}
 use Rattle.ig_turn.specs.States.{SeatState, TurnState}
-use Rattle.ig_turn.specs.History.{under, entry, ended, opened, with_born, newcomer, with_seen, joined_with, numbers_of, Adds, IsLonger, IsWhole, IsWholeSeat}
+use Rattle.ig_turn.specs.History.{under, entry, ended, opened, with_born, newcomer, with_seen, joined_with, Adds, IsLonger, IsWhole, IsWholeSeat}
 use Rattle.ig_turn.specs.Rule.{Has, Each}
-use Rattle.ig_turn.proofs.Lists.{prefix_length, each_from_all, each_weaker, has_from_contains, contains_from_has, under-append, all_from_each}
+use Rattle.ig_turn.proofs.Lists.{prefix_length, each_from_all, each_weaker, has_from_contains, contains_from_has, under-append}
 
 module _ {A G : Type 0} where
   -- a list with no entry under either of the numbers that its entries have

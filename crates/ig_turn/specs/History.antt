@@ -1,5 +1,5 @@
 -- The history of a turn, and what holds of the part of it that one seat has seen.
-use Rattle.std.specs.Prelude.{◌≡◌, ◌⊎◌, ◌==◌, ℕ, ◌+◌, ◌<◌, ◌≤◌, ◌^◌, List, [], ◌∷◌, ◌++◌, map, length, nat_eq}
+use Rattle.std.specs.Prelude.{◌≡◌, ◌⊎◌, ◌==◌, ℕ, ◌≤◌, ◌^◌, List, [], ◌∷◌, ◌++◌, map, length, nat_eq}
 use Rattle.std.specs.List.{All, Contains, filter, IsDistinct}
 use mathlib.Core.List.{IsPrefix}
 use Rattle.ig_turn.specs.declared.view.Entry.{Entry}

@@ -1,4 +1,5 @@
 pub use Rattle.atomic_table.specs.Seated
+pub mod Objects
 pub mod States
 pub mod History
 pub mod Rule

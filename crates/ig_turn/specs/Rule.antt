@@ -1,7 +1,7 @@
 -- The rule of a turn's table, which each atomic step keeps.
 -- The words are the next ticket, the ticket that is served, the number of entries in the history, and the next number of a seat.
 -- The one slot holds the object.
-use Rattle.std.specs.Prelude.{◌≡◌, ◌≢◌, ◌⊎◌, ℕ, ◌+◌, ◌<◌, ◌≤◌, ◌^◌, Bool, true, cond, List, [], ◌∷◌, ◌++◌, map, length}
+use Rattle.std.specs.Prelude.{◌≡◌, ◌≢◌, ◌⊎◌, ℕ, ◌+◌, ◌<◌, ◌≤◌, ◌^◌, true, cond, List, [], ◌∷◌, ◌++◌, map, length}
 use mathlib.Core.Option.{Option, some, none}
 use mathlib.Core.List.{IsPrefix}
 use lib.ListN.{get_elem?}

@@ -1,13 +1,13 @@
 -- What each step on the table tells the seat that makes it.
-use Rattle.std.specs.Prelude.{◌≡◌, ◌≢◌, ◌⊎◌, ℕ, ◌+◌, ◌<◌, Bool, true, false, cond, nat_lt, List, [], ◌∷◌, ◌++◌, length}
+use Rattle.std.specs.Prelude.{◌≡◌, ◌≢◌, ◌⊎◌, ℕ, ◌<◌, true, false, cond, nat_lt, List, [], ◌∷◌, ◌++◌, length}
 use mathlib.Core.List.{IsPrefix}
 use Rattle.atomic_table.specs.Table.{Me, Step}
 use Rattle.ig_turn.specs.declared.view.Entry.{Entry}
 use Rattle.ig_turn.specs.declared.view.Stage.{Stage}
 use Rattle.ig_turn.specs.declared.view.Stage.TheVariants.{Idle, Waiting, Holding, Drawn}
 use Rattle.ig_turn.specs.declared.view.View.{View}
-use Rattle.ig_turn.specs.History.{pairs_of, under, ended, entry, numbers_of, IsWhole, IsLonger}
-use Rattle.ig_turn.specs.Rule.{Has, Each}
+use Rattle.ig_turn.specs.History.{pairs_of, under, ended, entry, IsWhole, IsLonger}
+use Rattle.ig_turn.specs.Rule.{Each}
 
 module _ {A G : Type 0} where
   abbrev pub drawn_number : Stage A G → ℕ
@@ -118,7 +118,7 @@ module _ {X A G : Type 0} where
     abbrev pub draws_number : Step O → Me O (View X A G) → ℕ → Me O (View X A G) → Type 0
     draws_number s me found me' =
         (found ≡ s.first → (me' ≡ (record me.0 { stage = Drawn found; born = me.0.born ++ found ∷ [] }, me.1)) × (me.0.number < found) × Each (λ n. n < found) me.0.born
-            × (under found me.0.seen ≡ []))
+        × (under found me.0.seen ≡ []))
         × (found ≢ s.first → me' ≡ me)
 
     -- both lists that the view keeps are beginnings of the longer one, which it has seen from now on

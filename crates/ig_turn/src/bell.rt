@@ -22,17 +22,21 @@ impl Bell {
         }
     }
 
-    /// Asks to be woken. After this the caller looks once more, and then it may sleep: a turn that is passed
-    /// after the look finds the word odd, and rings.
+    /// Asks that the next pass wakes a call. Who asks and then sees that the turn is taken may sleep: it is passed after
+    /// that look, and so the bell rings.
     pub(crate) fn ask(&self) -> Mark {
         Mark(((self.word.fetch_or(1, SeqCst) | 1) & LOW_BITS) as u32)
     }
 
-    /// Sleeps unless the bell rang since the mark was made.
+    /// True where the next pass wakes a call.
+    pub(crate) fn is_asked(&self) -> bool {
+        self.word.load(SeqCst) % 2 == 1
+    }
+
+    /// Sleeps unless the bell rang since the mark was made. Others may sleep still, so who was woken asks again before it
+    /// sleeps or passes the turn.
     pub(crate) fn sleep<R: Wait>(&self, rt: &R, mark: Mark) {
         self.word.park(rt, mark.0);
-        // Others may sleep still, and whoever was woken has to see that they are.
-        self.word.fetch_or(1, SeqCst);
     }
 
     /// Wakes one call, if any may sleep.

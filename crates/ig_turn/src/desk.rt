@@ -9,16 +9,17 @@ ghost use Rattle.ig_turn.specs.Steps.{opening_view, split_right, settled_view, g
 
 use crate::bell::Bell;
 use crate::plain::Plain;
-use crate::rule::{Commit, Cut, DrawNumber, DrawTicket, Glue, InTurn, Inform, Made, Note, Pass, Settle, TakeObject};
+use crate::rule::{
+    Commit, Cut, DrawNumber, DrawTicket, Glue, InTurn, Inform, Made, Note, Pass, Settle, TakeObject,
+};
 use crate::view::View;
 use atomic_table::{Refused, Seat, Table};
 use ig_base::NoRoom;
 use std::alloc::{AllocFailed, Global};
-use std::hint;
 use std::marker::Brand;
 use std::snapshot::Snapshot;
 use std::sync::Wait;
-use std::thread;
+use std::{hint, thread};
 
 /// The next ticket.
 pub(crate) const TICKET: usize = 0;
@@ -98,6 +99,7 @@ impl<O: Plain> Desk<O> {
         ensures id { (place.new.table_id ≡ place.old.table_id) × (place.new.id ≡ place.old.id) }
         ensures drawn { place.new.me ≡ (staged place.old.me.0 (Waiting result), place.old.me.1) }
     {
+        let mut slept = false;
         for _ in rt.forever() {
             if let Some(ticket) = self.free_ticket() {
                 let found = self
@@ -105,10 +107,13 @@ impl<O: Plain> Desk<O> {
                     .shared
                     .compare_exchange::<DrawTicket>(place, TICKET, ticket, ticket + 1);
                 if found == ticket {
+                    if slept {
+                        self.bell.ask();
+                    }
                     return ticket;
                 }
-            } else {
-                self.wait(rt);
+            } else if self.wait(rt) {
+                slept = true;
             }
         }
         unreachable!()
@@ -127,21 +132,27 @@ impl<O: Plain> Desk<O> {
         }
     }
 
-    // Looks a while whether the turn is free, and then sleeps until it is passed.
-    fn wait<R: Wait>(&self, rt: &R) {
+    // Looks a while whether the turn is free, unless others sleep already, and then sleeps until it is passed.
+    // True where it slept.
+    fn wait<R: Wait>(&self, rt: &R) -> bool {
         for _ in 0..LOOKS {
             if self.free_ticket().is_some() {
-                return;
+                return false;
+            }
+            if self.bell.is_asked() {
+                break;
             }
             hint::spin_loop();
         }
         let mark = self.bell.ask();
-        if self.free_ticket().is_none() {
-            self.bell.sleep(rt, mark);
+        if self.free_ticket().is_some() {
+            return false;
         }
+        self.bell.sleep(rt, mark);
+        true
     }
 
-    // Takes the object once the ticket is served.
+    // Takes the object once the ticket is served, as one that `draw` gave is at once.
     fn take<R: Wait>(&self, rt: &R, place: &mut Place<O>, ticket: u64)
         requires id { place.old.table_id ≡ self.now.table.shared.table_id }
         requires waits { (place.old.me.0.stage ≡ Waiting ticket) × (place.old.me.0.live ≡ true) × (place.old.me.1 ≡ []) }
@@ -200,11 +211,7 @@ impl<O: Plain> Desk<O> {
     }
 
     // Asks the object that the seat has taken.
-    fn act(
-        &self,
-        place: &mut Place<O>,
-        ask: O::Ask,
-    ) -> Result<O::Got, NoRoom<O::Ask>>
+    fn act(&self, place: &mut Place<O>, ask: O::Ask) -> Result<O::Got, NoRoom<O::Ask>>
         requires id { place.old.table_id ≡ self.now.table.shared.table_id }
         requires fits { O.fits ask }
         requires carries { Carries O.stands place.old.me (pairs_of (held_list place.old.me.0.stage)) }

@@ -10,7 +10,7 @@ use std::marker::{Brand, PhantomData};
 use std::snapshot::Snapshot;
 
 /// All calls of a turn stand in one history, in which each seat knows its own.
-pub struct InTurn;
+pub(crate) struct InTurn;
 
 impl<O: Plain> TableRule<O, View<O::Start, O::AskData, O::GotData>, Snapshot<O>> for InTurn {
     ghost holds = { λ object. Ordered O.stands (O.start_of object.value) };

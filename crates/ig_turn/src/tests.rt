@@ -42,9 +42,13 @@ impl Plain for Cells {
     ghost use Rattle.ig_turn.specs.Cells.{RunsFrom, StandsFor, runs_front};
 
     type Ask = Ask;
+
     type Got = Got;
+
     type AskData = Ask;
+
     type GotData = Got;
+
     type Start = LinkedList<(i32, i32)>;
 
     ghost ask_data = { λ ask. ask };
@@ -165,7 +169,13 @@ fn join_all(
 ) -> Result<(), AllocError>
     requires { IsOf turn.now seat.old × All (λ w. IsOf turn.now w.seat) workers.items }
 {
-    while let Some(Worked { seat: other, calls: made }) = workers.pop() {
+    while let Some(
+        Worked {
+            seat: other,
+            calls: made,
+        },
+    ) = workers.pop()
+    {
         turn.join(seat, other);
         calls.extend_from_slice(made.as_slice())?;
     }

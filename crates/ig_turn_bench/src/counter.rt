@@ -12,9 +12,13 @@ impl Plain for Counter {
     ghost use Rattle.ig_turn_bench.specs.Counts.{CountsFrom, counts_front};
 
     type Ask = ();
+
     type Got = u64;
+
     type AskData = ();
+
     type GotData = u64;
+
     type Start = ();
 
     ghost ask_data = { λ ask. ask };

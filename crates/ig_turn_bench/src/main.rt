@@ -10,12 +10,10 @@ mod counter;
 use counter::Counter;
 use ig_turn::{Turn, TurnSeat};
 use std::alloc::{AllocError, Global};
-use std::env;
-use std::io;
 use std::sync::Wait;
-use std::thread;
 use std::thread::Threads;
 use std::time::Instant;
+use std::{env, io, thread};
 
 fn number(words: &[String], place: usize) -> u64 {
     match words.get(place) {

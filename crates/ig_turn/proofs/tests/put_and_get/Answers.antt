@@ -1,4 +1,4 @@
-use Rattle.std.proofs.Common.{◌≡◌, ◌∙◌, ap, sym, subst}
+use Rattle.std.proofs.Common.{◌∙◌, ap, subst}
 use Rattle.ig_turn.specs.History.{joined_with, IsLonger}
 use Rattle.ig_turn.proofs.TwoCalls.{two_calls}
 use Rattle.ig_turn.proofs.tests.put_and_get.Goals as goal

@@ -1,4 +1,4 @@
-use Rattle.std.proofs.Common.{rules, refl}
+use Rattle.std.proofs.Common.{rules}
 use Rattle.ig_turn.proofs.Calls.{commits_call}
 use Rattle.ig_turn.proofs.desk.Desk.commit.Goals as goal
 

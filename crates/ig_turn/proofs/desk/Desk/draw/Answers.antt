@@ -1,5 +1,4 @@
-use Rattle.std.proofs.Common.{rules, refl, ap, ◌∙◌}
-use Rattle.ig_turn.specs.declared.view.View.{View}
+use Rattle.std.proofs.Common.{rules, refl}
 use Rattle.ig_turn.proofs.Calls.{draws}
 use Rattle.ig_turn.proofs.desk.Desk.draw.Goals as goal
 

@@ -9,4 +9,4 @@ pub new-requires : goal.new-requires
 new-requires g c = let stands = g.O.Plain.stands in let start_of = g.O.Plain.start_of in let object = c.args.object in
     let key : c.of-key.result.value ≡ object = c.of-key.ensures in let items : c.push.new.self.items ≡ object ∷ [] = search rules in
     subst (λ (z : g.row.O.Denot × List g.row.O.Denot). Ordered stands (start_of z.0) (opening (0 ∷ 0 ∷ 0 ∷ 1 ∷ []) z.1 (opening_view (start_of z.0))))
-        (λ i. (sym key i, sym items i)) (opens stands (start_of object) object c.requires)
+    (λ i. (sym key i, sym items i)) (opens stands (start_of object) object c.requires)

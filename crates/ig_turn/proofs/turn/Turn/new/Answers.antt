@@ -1,4 +1,4 @@
-use Rattle.std.proofs.Common.{refl, sym, ap, subst, []}
+use Rattle.std.proofs.Common.{sym, ap, subst, []}
 use Rattle.ig_turn.specs.declared.view.View.{View}
 use Rattle.ig_turn.specs.Steps.{IsAtRest, IsWholeView}
 use Rattle.ig_turn.proofs.Opens.{rest_opened, whole_opened}
