@@ -6,8 +6,10 @@ use ig_base::NoRoom;
 
 /// An object that is called with an ask and answers with a got. Its meaning is a start and the pairs of ask and got since.
 pub trait Plain: Drop {
+    /// What it is asked.
     type Ask;
 
+    /// What it answers.
     type Got;
 
     /// An ask as the history has it: plain data, of which no value is made.
@@ -48,7 +50,9 @@ pub trait Plain: Drop {
         ensures err { IfErr result (λ none. (none.back ≡ ask) × KeepsPairs stands self.old self.new) }
         ensures sure { is_sure ask → IsOk result };
 
+    // Whatever an object stands for, an object may have.
     ghost stands_runs: { (object : Self) (start : Self.Start) (pairs : List (Self.AskData × Self.GotData)) → stands object start pairs → runs start pairs };
 
+    // A beginning of what an object may have, an object may have.
     ghost runs_prefix: { (start : Self.Start) (pairs more : List (Self.AskData × Self.GotData)) → runs start (pairs ++ more) → runs start pairs };
 }

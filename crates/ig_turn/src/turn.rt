@@ -40,6 +40,7 @@ impl<O: Plain> Turn<O> {
     }
 
     /// Waits for the turn and asks the object. An ask that it has no room for comes back, and leaves no entry.
+    /// It takes no memory but in the object's `act`. Once 2^62 tickets were drawn it never returns.
     pub fn run<R: Wait>(
         &self,
         rt: &R,
@@ -58,7 +59,7 @@ impl<O: Plain> Turn<O> {
         self.desk.call(rt, &mut seat.place, ask)
     }
 
-    /// A new seat, for another caller. It has seen what this one has, and done nothing.
+    /// A new seat, for another caller. It has seen what this one has, and done nothing. It takes no memory.
     /// Once 2^62 numbers were drawn it never returns.
     pub fn split<R: Wait>(&self, rt: &R, seat: &mut TurnSeat<O>) -> TurnSeat<O>
         requires own { IsOf self.now seat.old }
@@ -75,6 +76,7 @@ impl<O: Plain> Turn<O> {
     }
 
     /// The other seat ends. This one has seen what either has, and keeps what the other did under its number.
+    /// It takes no memory and doesn't wait, and nor does `meet`.
     pub fn join(&self, seat: &mut TurnSeat<O>, other: TurnSeat<O>)
         requires own { IsOf self.now seat.old × IsOf self.now other }
         ensures own { IsOf self.now seat.new }
