@@ -1,0 +1,79 @@
+-- The history of a turn, and what holds of the part of it that one seat has seen.
+use Rattle.std.specs.Prelude.{◌≡◌, ◌⊎◌, ◌==◌, ℕ, ◌≤◌, ◌^◌, List, [], ◌∷◌, ◌++◌, map, length, nat_eq}
+use Rattle.std.specs.List.{All, Contains, filter, IsDistinct}
+use mathlib.Core.List.{IsPrefix}
+use Rattle.ig_turn.specs.declared.view.Entry.{Entry}
+use Rattle.ig_turn.specs.declared.view.Ended.{Ended}
+use Rattle.ig_turn.specs.States.{SeatState, TurnState}
+
+module _ {A G : Type 0} where
+  abbrev pub entry : ℕ → A → G → Entry A G
+  entry number ask got = record { number = number; ask = ask; got = got }
+
+  abbrev pub ended : ℕ → List (Entry A G) → Ended A G
+  ended number own = record { number = number; own = own }
+
+  abbrev pub pair_of : Entry A G → A × G
+  pair_of e = (e.ask, e.got)
+
+  -- the asks with what they got, in order
+  abbrev pub pairs_of : List (Entry A G) → List (A × G)
+  pairs_of es = map pair_of es
+
+  -- the entries under a number, in order
+  abbrev pub under : ℕ → List (Entry A G) → List (Entry A G)
+  under n es = filter (λ e. e.number == n) es
+
+  -- a seat's number, and those of the seats that were joined into it
+  abbrev pub numbers_of : ℕ → List (Ended A G) → List ℕ
+  numbers_of number joined = number ∷ map (λ e. e.number) joined
+
+  -- zs is the longer of xs and ys, and the shorter begins it
+  abbrev pub IsLonger : List (Entry A G) → List (Entry A G) → List (Entry A G) → Type 0
+  IsLonger xs ys zs = ((zs ≡ xs) × IsPrefix ys xs) ⊎ ((zs ≡ ys) × IsPrefix xs ys)
+
+  -- Of the entries that a seat has seen, those under its own number are its own, and those under the number of a
+  -- joined seat are the ones kept for it. Where it has joined every seat that was ever split off, it knows who made each entry
+  pub record IsWhole (number : ℕ) (seen own : List (Entry A G)) (joined : List (Ended A G)) (born : List ℕ) : Type 0 where
+    pub short : length seen ≤ 2 ^ 62
+    pub own_is : under number seen ≡ own
+    pub joined_are : All (λ e. under e.number seen ≡ e.own) joined
+    pub different : IsDistinct nat_eq (numbers_of number joined)
+    pub all_known : Contains (numbers_of number joined) 0 → All (Contains (numbers_of number joined)) born
+        → All (λ e. Contains (numbers_of number joined) e.number) seen
+
+module _ {X A G : Type 0} where
+  -- the first seat of a turn, which has seen nothing
+  abbrev pub opened : TurnState X → SeatState X A G
+  opened t = record { table = t.table; start = t.start; number = 0; seen = []; own = []; ended = []; born = [] }
+
+  -- the seat is of this turn
+  abbrev pub IsOf : TurnState X → SeatState X A G → Type 0
+  IsOf t s = (s.table ≡ t.table) × (s.start ≡ t.start)
+
+  abbrev pub IsWholeSeat : SeatState X A G → Type 0
+  IsWholeSeat s = IsWhole s.number s.seen s.own s.ended s.born
+
+  abbrev pub IsLegal : (X → List (A × G) → Type 0) → SeatState X A G → Type 0
+  IsLegal runs s = runs s.start (pairs_of s.seen)
+
+  -- the seat has seen more, and then its own call, which is all that it made
+  pub record Adds (s t : SeatState X A G) (ask : A) (got : G) : Type 0 where
+    pub between : List (Entry A G)
+    pub seen : t.seen ≡ (s.seen ++ between) ++ entry s.number ask got ∷ []
+    pub kept : t ≡ record s { seen = t.seen; own = s.own ++ entry s.number ask got ∷ [] }
+
+  -- the seat with one more number in its `born`
+  abbrev pub with_born : SeatState X A G → ℕ → SeatState X A G
+  with_born s n = record s { born = s.born ++ n ∷ [] }
+
+  -- a seat that has seen what s has, and has done nothing
+  abbrev pub newcomer : SeatState X A G → ℕ → SeatState X A G
+  newcomer s n = record s { number = n; own = []; ended = []; born = [] }
+
+  -- the seat s, with what the seat o did and what was joined into o
+  abbrev pub joined_with : SeatState X A G → SeatState X A G → List (Entry A G) → SeatState X A G
+  joined_with s o seen = record s { seen = seen; ended = s.ended ++ (o.ended ++ ended o.number o.own ∷ []); born = s.born ++ o.born }
+
+  abbrev pub with_seen : SeatState X A G → List (Entry A G) → SeatState X A G
+  with_seen s seen = record s { seen = seen }

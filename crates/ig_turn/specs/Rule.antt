@@ -1,0 +1,132 @@
+-- The rule of a turn's table, which each atomic step keeps.
+-- The words are the next ticket, the ticket that is served, the number of entries in the history, and the next number of a seat.
+-- The one slot holds the object.
+use Rattle.std.specs.Prelude.{◌≡◌, ◌≢◌, ◌⊎◌, ℕ, ◌+◌, ◌<◌, ◌≤◌, ◌^◌, true, cond, List, [], ◌∷◌, ◌++◌, map, length}
+use mathlib.Core.Option.{Option, some, none}
+use mathlib.Core.List.{IsPrefix}
+use lib.ListN.{get_elem?}
+use Rattle.atomic_table.specs.Table.{State}
+use Rattle.ig_turn.specs.declared.view.Entry.{Entry}
+use Rattle.ig_turn.specs.declared.view.Ended.{Ended}
+use Rattle.ig_turn.specs.declared.view.Stage.{Stage}
+use Rattle.ig_turn.specs.declared.view.Stage.TheVariants.{Idle, Waiting, Holding, Drawn}
+use Rattle.ig_turn.specs.declared.view.View.{View}
+use Rattle.ig_turn.specs.History.{pairs_of, under, ended}
+
+-- where the object is: in its slot, or out with the seat that is served, which has committed so many times in this turn
+pub data Phase (O : Type 0) : Type 0 where
+  home : O → Phase O
+  out : ℕ → Phase O
+
+-- whose ticket it is, by the ticket; which view has a number; and which number drew a number
+pub record Board (O A G : Type 0) : Type 0 where
+  pub ticket : ℕ
+  pub serving : ℕ
+  pub count : ℕ
+  pub seats : ℕ
+  pub log : List (Entry A G)
+  pub phase : Phase O
+  pub whose : ℕ → ℕ
+  pub owner : ℕ → ℕ
+  pub parent : ℕ → ℕ
+
+-- n is one of them
+abbrev pub Has : List ℕ → ℕ → Type 0
+Has [] n = ⊥
+Has (m ∷ ms) n = (m ≡ n) ⊎ Has ms n
+
+-- no two of them are equal
+abbrev pub Apart : List ℕ → Type 0
+Apart [] = Unit {0}
+Apart (m ∷ ms) = (Has ms m → ⊥) × Apart ms
+
+-- P holds of each
+abbrev pub Each : {T : Type 0} → (T → Type 0) → List T → Type 0
+Each P [] = Unit {0}
+Each P (x ∷ xs) = P x × Each P xs
+
+abbrev pub homes_of : {O : Type 0} → Phase O → List (Option O)
+homes_of (home o) = some o ∷ []
+homes_of (out c) = none ∷ []
+
+abbrev pub commits_of : {O : Type 0} → Phase O → ℕ
+commits_of (home o) = 0
+commits_of (out c) = c
+
+module _ {A G : Type 0} where
+  -- the number that was drawn for a new seat, if one was
+  abbrev pub drawn_of : Stage A G → List ℕ
+  drawn_of (Drawn n) = n ∷ []
+  drawn_of _ = []
+
+  abbrev pub number_of : Ended A G → ℕ
+  number_of e = e.number
+
+  abbrev pub HasTicket : ℕ → Stage A G → Type 0
+  HasTicket t (Waiting u) = u ≡ t
+  HasTicket t (Holding u l c) = u ≡ t
+  HasTicket t _ = ⊥
+
+  -- what the view j has to do with numbers
+  pub record Numbers (seats : ℕ) (owner parent : ℕ → ℕ) (log : List (Entry A G)) (j : ℕ) (drawn : List ℕ) (parts : List (Ended A G)) (born : List ℕ) : Type 0 where
+    pub each : Each (λ e. (owner e.number ≡ j) × (e.number < seats) × (under e.number log ≡ e.own)) parts
+    pub different : Apart (map number_of parts)
+    pub has : (n : ℕ) → n < seats → owner n ≡ j → Has (map number_of parts) n
+    pub kin : (n : ℕ) → 0 < n → n < seats → owner (parent n) ≡ j → Has born n
+    pub below : Each (λ n. n < seats) born
+    pub childless : Each (λ d. (owner d ≡ j) × ((n : ℕ) → 0 < n → n < seats → parent n ≢ d)) drawn
+
+module _ {X A G : Type 0} where
+  -- a view's numbers, each with the entries under it: one that was drawn, its own, and those that were joined
+  abbrev pub parts_of : View X A G → List (Ended A G)
+  parts_of v = map (λ n. ended n []) (drawn_of v.stage) ++ cond v.live (ended v.number v.own ∷ v.ended) []
+
+module _ {O A G : Type 0} where
+  abbrev pub words_of : Board O A G → List ℕ
+  words_of b = b.ticket ∷ b.serving ∷ b.count ∷ b.seats ∷ []
+
+  abbrev pub StageFits : Board O A G → ℕ → Stage A G → Type 0
+  StageFits b j Idle = Unit {0}
+  StageFits b j (Waiting t) = (b.serving ≤ t) × (t < b.ticket) × (b.whose t ≡ j)
+  StageFits b j (Holding t l c) = (t ≡ b.serving) × (t < b.ticket) × (b.whose t ≡ j) × (b.phase ≡ out c) × (l ≡ b.log)
+  StageFits b j (Drawn n) = Unit {0}
+
+  -- the one that is served has the object where it is out
+  abbrev pub HolderFits : Board O A G → ℕ → Phase O → Stage A G → Type 0
+  HolderFits b j (home o) st = Unit {0}
+  HolderFits b j (out c) st = b.whose b.serving ≡ j → st ≡ Holding b.serving b.log c
+
+  -- what the view j has to do with tickets
+  pub record Tickets (b : Board O A G) (j : ℕ) (st : Stage A G) : Type 0 where
+    pub stage : StageFits b j st
+    pub turn : (t : ℕ) → b.serving ≤ t → t < b.ticket → b.whose t ≡ j → HasTicket t st
+    pub holder : HolderFits b j b.phase st
+
+module _ {O X A G : Type 0} where
+  pub record Knows (start : X) (b : Board O A G) (j : ℕ) (v : View X A G) : Type 0 where
+    pub seen : IsPrefix v.seen b.log
+    pub met : IsPrefix v.met b.log
+    pub tickets : Tickets b j v.stage
+    pub numbers : Numbers b.seats b.owner b.parent b.log j (drawn_of v.stage) (parts_of v) v.born
+    pub starts : v.live ≡ true → v.start ≡ start
+
+  module _ (stands : O → X → List (A × G) → Type 0) where
+    abbrev pub ObjectFits : X → Board O A G → Phase O → Type 0
+    ObjectFits start b (home o) = stands o start (pairs_of b.log)
+    ObjectFits start b (out c) = (b.serving < b.ticket) × (c ≤ 1)
+
+    pub record Ordered (start : X) (s : State O (View X A G)) : Type 0 where
+      pub board : Board O A G
+      pub words : s.words ≡ words_of board
+      pub homes : s.homes ≡ homes_of board.phase
+      pub object : ObjectFits start board board.phase
+      pub counted : board.count ≡ length board.log
+      pub few : board.count ≤ board.serving + commits_of board.phase
+      pub in_turn : board.serving ≤ board.ticket
+      pub tickets_left : board.ticket ≤ 2 ^ 62
+      pub numbers_left : (0 < board.seats) × (board.seats ≤ 2 ^ 62)
+      pub fresh : (n : ℕ) → board.seats ≤ n → under n board.log ≡ []
+      pub older : (n : ℕ) → 0 < n → n < board.seats → board.parent n < n
+      pub each_view : (j : ℕ) (v : View X A G) → get_elem? s.views j ≡ some v → Knows start board j v
+      pub holders : (t : ℕ) → board.serving ≤ t → t < board.ticket → board.whose t < length s.views
+      pub owners : (n : ℕ) → n < board.seats → board.owner n < length s.views

@@ -1,0 +1,126 @@
+-- What each step on the table tells the seat that makes it.
+use Rattle.std.specs.Prelude.{◌≡◌, ◌≢◌, ◌⊎◌, ℕ, ◌<◌, true, false, cond, nat_lt, List, [], ◌∷◌, ◌++◌, length}
+use mathlib.Core.List.{IsPrefix}
+use Rattle.atomic_table.specs.Table.{Me, Step}
+use Rattle.ig_turn.specs.declared.view.Entry.{Entry}
+use Rattle.ig_turn.specs.declared.view.Stage.{Stage}
+use Rattle.ig_turn.specs.declared.view.Stage.TheVariants.{Idle, Waiting, Holding, Drawn}
+use Rattle.ig_turn.specs.declared.view.View.{View}
+use Rattle.ig_turn.specs.History.{pairs_of, under, ended, entry, IsWhole, IsLonger}
+use Rattle.ig_turn.specs.Rule.{Each}
+
+module _ {A G : Type 0} where
+  abbrev pub drawn_number : Stage A G → ℕ
+  drawn_number (Drawn n) = n
+  drawn_number _ = 0
+
+  -- the ticket and the list of a seat that holds the object
+  abbrev pub held_ticket : Stage A G → ℕ
+  held_ticket (Holding t l c) = t
+  held_ticket _ = 0
+
+  abbrev pub held_list : Stage A G → List (Entry A G)
+  held_list (Holding t l c) = l
+  held_list _ = []
+
+  -- the seat holds the object, and has committed c times since it took it
+  abbrev pub IsHolding : Stage A G → ℕ → Type 0
+  IsHolding st c = st ≡ Holding (held_ticket st) (held_list st) c
+
+  abbrev pub longer_of : List (Entry A G) → List (Entry A G) → List (Entry A G)
+  longer_of xs ys = cond (nat_lt (length xs) (length ys)) ys xs
+
+module _ {X A G : Type 0} where
+  -- the view at another stage
+  abbrev pub staged : View X A G → Stage A G → View X A G
+  staged v st = record v { stage = st }
+
+  abbrev pub IsLegalView : (X → List (A × G) → Type 0) → View X A G → Type 0
+  IsLegalView runs v = runs v.start (pairs_of v.seen)
+
+  abbrev pub opening_view : X → View X A G
+  opening_view x = record { start = x; stage = Idle; live = true; number = 0; seen = []; met = []; own = []; ended = []; born = [] }
+
+  -- a view that has no number: of a seat that was joined, or of a note from one seat to another
+  abbrev pub lifeless : X → List (Entry A G) → View X A G
+  lifeless x seen = record { start = x; stage = Idle; live = false; number = 0; seen = seen; met = []; own = []; ended = []; born = [] }
+
+  abbrev pub IsWholeView : View X A G → Type 0
+  IsWholeView v = IsWhole v.number v.seen v.own v.ended v.born
+
+  -- the view of the new seat, and what is left to the old one
+  abbrev pub split_right : View X A G → View X A G
+  split_right v = record { start = v.start; stage = Idle; live = true; number = drawn_number v.stage; seen = v.seen; met = []; own = []; ended = []; born = [] }
+
+  abbrev pub split_left : View X A G → View X A G
+  split_left v = staged v Idle
+
+  -- a note of what the seat has seen
+  abbrev pub note_of : View X A G → View X A G
+  note_of v = lifeless v.start v.seen
+
+  -- a view that has taken in another's, whose list it keeps beside its own
+  abbrev pub glued : View X A G → View X A G → View X A G
+  glued v w = record v { met = w.seen; ended = v.ended ++ (w.ended ++ ended w.number w.own ∷ []); born = v.born ++ w.born }
+
+  -- a view that has taken in a note
+  abbrev pub informed : View X A G → View X A G → View X A G
+  informed v w = record v { met = w.seen }
+
+  abbrev pub settled_view : View X A G → View X A G
+  settled_view v = record v { seen = longer_of v.seen v.met; met = [] }
+
+  -- the view, when it has committed a call on what it holds
+  abbrev pub committed_view : View X A G → ℕ → List (Entry A G) → A → G → View X A G
+  committed_view v t l ask got = record v { stage = Holding t (l ++ entry v.number ask got ∷ []) 1; seen = l ++ entry v.number ask got ∷ []; own = v.own ++ entry v.number ask got ∷ [] }
+
+  -- each list that is kept under a number is what either list of the view has under it
+  abbrev pub KeepsParts : View X A G → Type 0
+  KeepsParts v = Each (λ e. (under e.number v.seen ≡ e.own) ⊎ (under e.number v.met ≡ e.own)) (ended v.number v.own ∷ v.ended)
+
+  -- the view has seen more, and then its own call
+  abbrev pub AddsView : View X A G → View X A G → A → G → Type 0
+  AddsView v w ask got = (between : List (Entry A G)) × (w ≡ record v { seen = (v.seen ++ between) ++ entry v.number ask got ∷ []; own = v.own ++ entry v.number ask got ∷ [] })
+
+  -- What a seat knows between two calls. It holds nothing, and waits for nothing
+  pub record IsAtRest (runs : X → List (A × G) → Type 0) (v : View X A G) : Type 0 where
+    pub idle : v.stage ≡ Idle
+    pub live : v.live ≡ true
+    pub met_none : v.met ≡ []
+    pub legal : IsLegalView runs v
+    pub whole : IsWholeView v
+
+  module _ {O : Type 0} where
+    -- the seat has taken the object, which stands for these pairs
+    abbrev pub Carries : (O → X → List (A × G) → Type 0) → Me O (View X A G) → List (A × G) → Type 0
+    Carries stands me pairs = (o : O) × (me.1 ≡ (0, o) ∷ []) × stands o me.0.start pairs
+
+    -- a ticket was drawn where the word was as expected
+    abbrev pub draws_ticket : Step O → Me O (View X A G) → ℕ → Me O (View X A G) → Type 0
+    draws_ticket s me found me' = (found ≡ s.first → me' ≡ (staged me.0 (Waiting found), me.1)) × (found ≢ s.first → me' ≡ me)
+
+    -- the object was taken where the seat's ticket is served
+    abbrev pub takes_object : (O → X → List (A × G) → Type 0) → Step O → Me O (View X A G) → ℕ → Me O (View X A G) → Type 0
+    takes_object stands s me found me' = (t : ℕ) → me.0.stage ≡ Waiting t
+        → (found ≡ t → (o : O) × (l : List (Entry A G)) × (me' ≡ (staged me.0 (Holding t l 0), (0, o) ∷ me.1)) × stands o me.0.start (pairs_of l) × IsPrefix me.0.seen l)
+        × (found ≢ t → me' ≡ me)
+
+    -- these calls, one of them, were committed
+    abbrev pub commits : List (A × G) → Step O → Me O (View X A G) → ℕ → Me O (View X A G) → Type 0
+    commits calls s me found me' = (t : ℕ) (l : List (Entry A G)) (ask : A) (got : G) → me.0.stage ≡ Holding t l 0 → calls ≡ (ask, got) ∷ []
+        → (me' ≡ (committed_view me.0 t l ask got, me.1)) × IsWholeView me'.0
+
+    -- the object was given back, and the next ticket is served
+    abbrev pub passes : Step O → Me O (View X A G) → ℕ → Me O (View X A G) → Type 0
+    passes s me found me' = me' ≡ (staged me.0 Idle, [])
+
+    -- a number was drawn where the word was as expected
+    abbrev pub draws_number : Step O → Me O (View X A G) → ℕ → Me O (View X A G) → Type 0
+    draws_number s me found me' =
+        (found ≡ s.first → (me' ≡ (record me.0 { stage = Drawn found; born = me.0.born ++ found ∷ [] }, me.1)) × (me.0.number < found) × Each (λ n. n < found) me.0.born
+        × (under found me.0.seen ≡ []))
+        × (found ≢ s.first → me' ≡ me)
+
+    -- both lists that the view keeps are beginnings of the longer one, which it has seen from now on
+    abbrev pub settles : Step O → Me O (View X A G) → ℕ → Me O (View X A G) → Type 0
+    settles s me found me' = (me' ≡ (settled_view me.0, me.1)) × IsLonger me.0.seen me.0.met me'.0.seen × (KeepsParts me.0 → IsWholeView me'.0)
