@@ -1,0 +1,5 @@
+pub mod Bound
+pub mod Clash
+pub mod Join
+pub mod Keys
+pub mod Parts

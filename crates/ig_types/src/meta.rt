@@ -1,0 +1,54 @@
+//! The description of a type.
+
+ghost use Rattle.std.specs.Prelude.{◌≡◌, IfOk};
+
+use ig_base::{Items, NoMemory, Text};
+use std::alloc::Global;
+
+/// One field of a type.
+#[derive(Debug, Drop)]
+pub struct FieldMeta {
+    pub name: Text,
+    /// The type code of the field's values.
+    pub kind: i32,
+    pub id: i32,
+}
+
+/// One literal of an enum.
+#[derive(Debug, Drop)]
+pub struct Literal {
+    pub name: Text,
+    pub ordinal: i32,
+}
+
+/// A schema: the identifiers of the fields that an object of this schema has, in their order.
+#[derive(Debug, Drop)]
+pub struct SchemaMeta {
+    pub id: i32,
+    pub ids: Items<i32>,
+}
+
+/// The description of a type.
+///
+/// Every call that takes one wants it in order (`IsInOrder`), and every call that gives one promises
+/// it: fields and literals by the bytes of their names, schemas by their identifiers, each ascending
+/// and without repeats, and literals only where it is an enum. Identifier 0, an empty name, two
+/// fields of one identifier, and a schema identifier that isn't computed from its list are all fine.
+#[derive(Debug, Drop)]
+pub struct TypeMeta {
+    pub type_id: i32,
+    pub name: Text,
+    /// The name of the field whose value decides where an object lies, if there is one.
+    pub affinity: Option<Text>,
+    pub is_enum: bool,
+    pub fields: Items<FieldMeta>,
+    pub literals: Items<Literal>,
+    pub schemas: Items<SchemaMeta>,
+}
+
+/// A text of the same bytes.
+pub(crate) fn copy_text(alloc: Global, text: &Text) -> Result<Text, NoMemory>
+    ensures { IfOk result (λ copy. copy ≡ text.now) }
+{
+    Ok(Text::new(String::from_str(alloc, text.as_str())?))
+}
