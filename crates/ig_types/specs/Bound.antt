@@ -42,3 +42,9 @@ pub record Below (a b : TypeMeta) : Type 0 where
   pub fields : Within a.fields b.fields
   pub literals : Within a.literals b.literals
   pub schemas : Within a.schemas b.schemas
+
+-- m is above a and b, and below whatever is above both
+pub record IsLeastAbove (a b m : TypeMeta) : Type 0 where
+  pub first : Below a m
+  pub second : Below b m
+  pub least : (u : TypeMeta) → Below a u → Below b u → Below m u

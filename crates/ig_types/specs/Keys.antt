@@ -26,7 +26,7 @@ by_schema_total = on_total (λ x. x.id) int_cmp_total
 decides_also : {P Q : Type 0} (r : Bool) → (P → Q) → (Q → P) → Decides r P → Decides r Q
 decides_also r there back decides = (λ is. there (decides.0 is), λ q. decides.1 (back q))
 
-same_name_exact : (m n : List ℕ) → Decides (same_name m n) (m ≡ n)
+pub same_name_exact : (m n : List ℕ) → Decides (same_name m n) (m ≡ n)
 same_name_exact m n = slice_eq-Decides Decides-eqb m n _ refl
 
 pub same_field_exact : (x y : FieldMeta) → Decides (same_field x y) (x ≡ y)

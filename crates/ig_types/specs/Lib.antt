@@ -2,4 +2,5 @@ pub mod Bound
 pub mod Clash
 pub mod Join
 pub mod Keys
+pub mod Laws
 pub mod Parts
