@@ -1,5 +1,5 @@
 -- The join of two descriptions is the least one above both, and is there exactly where they don't clash.
-use Rattle.std.proofs.Common.{◌≡◌, ◌≢◌, ℕ, ◌⊎◌, Bool, true, false, cond, List, [], ◌∷◌, Option, Some, None, IfSome, option_map, refl, sym, ap, subst, ◌∙◌, inl, inr}
+use Rattle.std.proofs.Common.{◌≡◌, ◌≢◌, ℕ, ◌⊎◌, Bool, true, false, cond, List, [], ◌∷◌, Option, Some, None, IfSome, Result, Ok, Err, IfOk, IfErr, OnOk, option_map, refl, sym, ap, subst, ◌∙◌, inl, inr}
 use Rattle.std.specs.List.Sorted.{IsStrictlySortedBy}
 use Rattle.std.specs.Option.{option_or}
 use Rattle.ig_types.specs.declared.meta.TypeMeta.{TypeMeta}
@@ -8,9 +8,11 @@ use Rattle.ig_types.specs.declared.meta.Literal.{Literal as LiteralMeta}
 use Rattle.ig_types.specs.declared.meta.SchemaMeta.{SchemaMeta}
 use Rattle.ig_types.specs.declared.clash.Clash.{Clash}
 use Rattle.ig_types.specs.declared.clash.Clash.TheVariants.{Name, Affinity, EnumFlag, Field, Literal, Schema}
+use Rattle.ig_types.specs.declared.clash.JoinFault.{JoinFault}
+use Rattle.ig_types.specs.declared.clash.JoinFault.TheVariants as fault
 use Rattle.ig_types.specs.Bound.{by_field, by_literal, by_schema, IsInOrder, Below, Within, IsLeastAbove}
-use Rattle.ig_types.specs.Clash.{AffinitiesAgree, HeadsAgree, AgreeOnAll, IsFirstClash}
-use Rattle.ig_types.specs.Join.{same_name, same_field, same_literal, same_schema, name_clash, affinity_clash, flag_clash, field_clash, literal_clash, schema_clash, clash_of, joined}
+use Rattle.ig_types.specs.Clash.{AffinitiesAgree, HeadsAgree, AgreeOnAll, IsFirstClash, IfClash}
+use Rattle.ig_types.specs.Join.{same_name, same_field, same_literal, same_schema, name_clash, affinity_clash, flag_clash, field_clash, literal_clash, schema_clash, clash_of, joined, IsOutcome}
 use Rattle.ig_types.specs.Keys.{same_name_exact, same_field_exact, same_literal_exact, same_schema_exact, by_field_total, by_literal_total, by_schema_total}
 use Rattle.ig_types.specs.Parts.{Agree, DifferFirst, with_parts, first_rivals}
 use Rattle.ig_types.proofs.Members.{first_within, second_within, both_within, sorted_with_parts, agree_within, same_from_within}
@@ -234,3 +236,22 @@ pub joins : (a b : TypeMeta) → a.type_id ≡ b.type_id → IsInOrder a → IsI
 joins a b one_type first second none =
     let agree = agree_unless_clash a b none in
     record { in_order = joined_in_order a b first second agree; is_least = joined_is_least a b one_type second agree }
+
+-- ---- what an outcome of the join shows
+pub record Shows (a b : TypeMeta) (r : Result TypeMeta JoinFault) : Type 0 where
+  pub least : IfOk r (IsLeastAbove a b)
+  pub in_order : IfOk r IsInOrder
+  pub agreed : OnOk r (AgreeOnAll a b)
+  pub clash : IfErr r (λ e. IfClash e (IsFirstClash a b))
+
+pub shows : (a b : TypeMeta) → a.type_id ≡ b.type_id → IsInOrder a → IsInOrder b → (r : Result TypeMeta JoinFault) → IsOutcome r (clash_of a b) (joined a b) → Shows a b r
+shows a b one_type first second (Ok m) outcome =
+    let it : Joins a b = joins a b one_type first second outcome.0 in
+    record {
+      least = subst (IsLeastAbove a b) (sym outcome.1) it.is_least;
+      in_order = subst IsInOrder (sym outcome.1) it.in_order;
+      agreed = agree_unless_clash a b outcome.0;
+      clash = tt;
+    }
+shows a b one_type first second (Err (fault.Clash c)) outcome = record { least = tt; in_order = tt; agreed = tt; clash = first_clash a b first c outcome }
+shows a b one_type first second (Err fault.NoMemory) outcome = record { least = tt; in_order = tt; agreed = tt; clash = tt }

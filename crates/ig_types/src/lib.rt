@@ -2,9 +2,11 @@
 #![tactic(auto)]
 
 mod clash;
+mod joining;
 mod merging;
 mod meta;
 mod part;
 
 pub use clash::{Clash, JoinFault};
+pub use joining::{join, join_associates, join_commutes};
 pub use meta::{FieldMeta, Literal, SchemaMeta, TypeMeta};
