@@ -148,6 +148,21 @@ key_through None q r there on = tt
 key_through (Some k) q r there on = key_above q r k on there
 
 -- ---- below is an order
+key_itself : (p : Option (List ℕ)) → IfSome p (λ k. p ≡ Some k)
+key_itself None = tt
+key_itself (Some k) = refl
+
+pub below_refl : (a : TypeMeta) → Below a a
+below_refl a = record {
+  type_id = refl;
+  name = refl;
+  affinity = key_itself a.affinity;
+  is_enum = refl;
+  fields = λ x is_in. is_in;
+  literals = λ x is_in. is_in;
+  schemas = λ x is_in. is_in;
+}
+
 pub below_trans : (a b c : TypeMeta) → Below a b → Below b c → Below a c
 below_trans a b c first second = record {
   type_id = first.type_id ∙ second.type_id;

@@ -4,3 +4,5 @@ pub mod Join
 pub mod Keys
 pub mod Laws
 pub mod Parts
+pub mod Registered
+pub mod Stored

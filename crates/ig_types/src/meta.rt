@@ -2,6 +2,7 @@
 
 ghost use Rattle.std.specs.Prelude.{◌≡◌, IfOk};
 
+use crate::merging::with_copies;
 use ig_base::{Items, NoMemory, Text};
 use std::alloc::Global;
 
@@ -51,4 +52,25 @@ pub(crate) fn copy_text(alloc: Global, text: &Text) -> Result<Text, NoMemory>
     ensures { IfOk result (λ copy. copy ≡ text.now) }
 {
     Ok(Text::new(String::from_str(alloc, text.as_str())?))
+}
+
+impl TypeMeta {
+    /// The same description, in memory of its own.
+    pub fn copy(&self, alloc: Global) -> Result<TypeMeta, NoMemory>
+        ensures { IfOk result (λ copy. copy ≡ self.now) }
+    {
+        let affinity = match &self.affinity {
+            Some(key) => Some(copy_text(alloc, key)?),
+            None => None,
+        };
+        Ok(TypeMeta {
+            type_id: self.type_id,
+            name: copy_text(alloc, &self.name)?,
+            affinity,
+            is_enum: self.is_enum,
+            fields: with_copies(alloc, Vec::new(alloc), self.fields.as_slice())?,
+            literals: with_copies(alloc, Vec::new(alloc), self.literals.as_slice())?,
+            schemas: with_copies(alloc, Vec::new(alloc), self.schemas.as_slice())?,
+        })
+    }
 }
