@@ -4,5 +4,7 @@ pub mod LawProofs
 pub mod Maps
 pub mod Members
 pub mod MergeSteps
+pub mod Pairs
 pub mod Registers
 pub mod Rivals
+pub mod Search

@@ -97,7 +97,7 @@ module _ {X : Type 0} (rank : X → X → Ordering) (o : IsTotalOrder rank) wher
 
   -- ---- a sorted list is known by what it contains
   -- it has one part of a key
-  one_of_key : (zs : List X) → IsStrictlySortedBy rank zs → (x y : X) → Contains zs x → Contains zs y → rank x y ≡ Equal → x ≡ y
+  pub one_of_key : (zs : List X) → IsStrictlySortedBy rank zs → (x y : X) → Contains zs x → Contains zs y → rank x y ≡ Equal → x ≡ y
   one_of_key [] sorted x y x_in y_in tied = absurd (contains_nil x x_in)
   one_of_key (z ∷ zs) sorted x y x_in y_in tied = elim (contains_cases z zs x x_in) [
     | inl x_is ↦ elim (contains_cases z zs y y_in) [

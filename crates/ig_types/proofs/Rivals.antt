@@ -28,7 +28,7 @@ some_under f None y e = absurd (cc)
 some_under f (Some x) y e = (x, refl, cc)
 
 -- ---- a search through a list
-find_none : {X : Type 0} (p : X → Bool) (ys : List X) (y : X) → find p ys ≡ None → Contains ys y → p y ≡ false
+pub find_none : {X : Type 0} (p : X → Bool) (ys : List X) (y : X) → find p ys ≡ None → Contains ys y → p y ≡ false
 find_none p [] y none is_in = absurd (contains_nil y is_in)
 find_none p (z ∷ zs) y none is_in =
     elim (p z) as (λ b. p z ≡ b → cond b (Some z) (find p zs) ≡ None → p y ≡ false) [
@@ -36,7 +36,7 @@ find_none p (z ∷ zs) y none is_in =
       | false ↦ λ e n. elim (contains_cases z zs y is_in) [ inl is ↦ ap p is ∙ e | inr later ↦ find_none p zs y n later ]
     ] refl none
 
-find_some : {X : Type 0} (p : X → Bool) (ys : List X) (y : X) → find p ys ≡ Some y → Contains ys y × (p y ≡ true)
+pub find_some : {X : Type 0} (p : X → Bool) (ys : List X) (y : X) → find p ys ≡ Some y → Contains ys y × (p y ≡ true)
 find_some p [] y found = absurd (cc)
 find_some p (z ∷ zs) y found =
     elim (p z) as (λ b. p z ≡ b → cond b (Some z) (find p zs) ≡ Some y → Contains (z ∷ zs) y × (p y ≡ true)) [

@@ -21,8 +21,8 @@ fn field_named<'a>(fields: &'a [FieldMeta], name: &str) -> Option<&'a FieldMeta>
     requires { IsStrictlySortedBy by_field fields.now }
     ensures { option_copied result ≡ field_named fields.now name.now }
 {
-    let at = fields
-        .binary_search_by(|field| field.name.as_str().cmp(&name))
-        .ok()?;
-    Some(&fields[at])
+    match fields.binary_search_by(|field| field.name.as_str().cmp(&name)) {
+        Ok(at) => Some(&fields[at]),
+        Err(_) => None,
+    }
 }
