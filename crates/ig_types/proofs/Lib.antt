@@ -8,3 +8,4 @@ pub mod Pairs
 pub mod Registers
 pub mod Rivals
 pub mod Search
+pub mod WithinSteps

@@ -5,7 +5,7 @@ use Rattle.std.specs.Cmp.{IsTotalOrder, nat_cmp_total, int_cmp_total}
 use Rattle.std.specs.declared.cmp.Ordering.{Ordering}
 use Rattle.std.specs.declared.cmp.Ordering.TheVariants.{Less, Equal, Greater}
 use Rattle.std.specs.Option.{option_map_or}
-use Rattle.std.specs.FinMap.{FinMap, get, insert, empty, from_entries, get-empty, get-insert}
+use Rattle.std.specs.FinMap.{FinMap, get, insert, empty, from_entries, get-empty, get-insert, same_map}
 use Rattle.std.specs.BTreeMap.{is_at}
 use Rattle.std.specs.Map.{lookup}
 use Rattle.std.proofs.lemmas.Map.Lookups.{CmpEqualImpliesEq, exact_unsigned, exact_signed, exact_pairs}
@@ -17,7 +17,7 @@ use Rattle.ig_types.specs.Join.{clash_of, joined}
 use Rattle.ig_types.specs.Registered.{Registered, by_place, after_name, IsKept, put_clash, put_type, after_put, IsLeastOf, NoneOf, KeepsJoins}
 use Rattle.ig_types.proofs.Maps.{inserted}
 use Rattle.ig_types.proofs.Ascending.{contains_nil}
-use Rattle.ig_types.proofs.Joins.{Joins, joins, below_refl, below_trans}
+use Rattle.ig_types.proofs.Joins.{Joins, joins, no_clash_below, same_from_below, below_refl, below_trans}
 
 not_some : {A : Type 0} (x : A) → None ≡ Some x → ⊥
 not_some x e = cc
@@ -28,6 +28,15 @@ by_place_total = then_total (on_total (λ p. p.0) nat_cmp_total) (on_total (λ p
 
 pub by_place_exact : CmpEqualImpliesEq by_place
 by_place_exact = exact_pairs nat_cmp int_cmp exact_unsigned exact_signed
+
+-- identifiers that tie are one
+tied_ids : (i j : ℤ) → eq_by_cmp int_cmp i j ≡ true → i ≡ j
+tied_ids i j is = exact_signed i j (tied (int_cmp i j) is)
+  where
+    tied : (o : Ordering) → is_eq o ≡ true → o ≡ Equal
+    tied Less e = absurd (cc)
+    tied Equal e = refl
+    tied Greater e = absurd (cc)
 
 -- ---- nothing
 pub kept_nothing : (r : Registered) → r.types ≡ empty → IsKept r
@@ -68,12 +77,7 @@ module _ (r : Registered) (m : TypeMeta) (kept : IsKept r) (order : IsInOrder m)
   after id = get-insert int_cmp_total r.types m.type_id (put_type r m) id
 
   equal_ids : (id : ℤ) → eq_by_cmp int_cmp id m.type_id ≡ true → id ≡ m.type_id
-  equal_ids id is = exact_signed id m.type_id (tied (int_cmp id m.type_id) is)
-    where
-      tied : (o : Ordering) → is_eq o ≡ true → o ≡ Equal
-      tied Less e = absurd (cc)
-      tied Equal e = refl
-      tied Greater e = absurd (cc)
+  equal_ids id is = tied_ids id m.type_id is
 
   other_ids : (id : ℤ) → eq_by_cmp int_cmp id m.type_id ≡ false → m.type_id ≢ id
   other_ids id is e = let tied : int_cmp id m.type_id ≡ Equal = rw (← e) (tied_itself int_cmp_total m.type_id) in let no : is_eq (int_cmp id m.type_id) ≡ true = ap is_eq tied in cc
@@ -164,3 +168,25 @@ name_stands r place name none =
     ap (λ o. get (option_map_or (λ _. r) o (record r { names = insert r.names place name })).names place) none
     ∙ get-insert by_place_total r.names place name place
     ∙ ap (λ o. cond (is_eq o) (Some name) (get r.names place)) (tied_itself by_place_total place)
+
+-- ---- a description that stands there already
+pub record Known (r : Registered) (m : TypeMeta) : Type 0 where
+  pub no_clash : put_clash r m ≡ None
+  pub same : after_put r m ≡ r
+
+pub known : (r : Registered) (m t : TypeMeta) → IsKept r → IsInOrder m → get r.types m.type_id ≡ Some t → Below m t → Known r m
+known r m t kept order found below =
+    let its = kept m.type_id t found in
+    let none : clash_of t m ≡ None = no_clash_below t m t its.1 its.1 (below_refl t) below in
+    let it : Joins t m = joins t m its.0 its.1 order none in
+    let type : joined t m ≡ t = same_from_below (joined t m) t it.in_order its.1 (it.is_least.least t (below_refl t) below) it.is_least.first in
+    let put : put_type r m ≡ t = ap (λ o. option_map_or (λ s. joined s m) o m) found ∙ type in
+    let types : insert r.types m.type_id (put_type r m) ≡ r.types = same_map int_cmp_total exact_signed _ _ (λ q. after r m kept order (ap (option_and_then (λ s. clash_of s m)) found ∙ none) q ∙ unchanged q (put_type r m) put) in
+    record { no_clash = ap (option_and_then (λ s. clash_of s m)) found ∙ none; same = λ i. record { types = types i; names = r.names } }
+  where
+    unchanged : (q : ℤ) (p : TypeMeta) → p ≡ t → cond (eq_by_cmp int_cmp q m.type_id) (Some p) (get r.types q) ≡ get r.types q
+    unchanged q p is =
+        elim (eq_by_cmp int_cmp q m.type_id) as (λ b. eq_by_cmp int_cmp q m.type_id ≡ b → cond b (Some p) (get r.types q) ≡ get r.types q) [
+          | true ↦ λ e. ap Some is ∙ sym found ∙ sym (ap (get r.types) (tied_ids q m.type_id e))
+          | false ↦ λ e. refl
+        ] refl

@@ -1,14 +1,14 @@
 //! The join of two descriptions of one type.
 
-ghost use Rattle.std.specs.Prelude.{◌≡◌, Bool, true, false, if◌then◌else◌, Some, None, IfOk, IfErr, OnOk, option_map};
-ghost use Rattle.ig_types.specs.Bound.{IsInOrder, IsLeastAbove};
+ghost use Rattle.std.specs.Prelude.{◌≡◌, ◌↔◌, Some, IsTrue, IfSome, IfOk, IfErr, OnOk};
+ghost use Rattle.ig_types.specs.Bound.{Below, IsInOrder, IsLeastAbove};
 ghost use Rattle.ig_types.specs.Clash.{AgreeOnAll, IfClash, IsFirstClash};
 ghost use Rattle.ig_types.specs.Join.{IsOutcome, affinity_clash, clash_of, flag_clash, joined, name_clash};
 ghost use Rattle.ig_types.specs.Laws.{JoinAssociates, JoinCommutes};
 ghost use Rattle.std.specs.Option.{option_or};
 
 use crate::clash::{Clash, JoinFault};
-use crate::merging::merge;
+use crate::merging::{is_within, merge};
 use crate::meta::{TypeMeta, copy_text};
 use ig_base::Text;
 use std::alloc::Global;
@@ -100,5 +100,41 @@ fn join_flags(a: bool, b: bool) -> Result<bool, JoinFault>
         Ok(a)
     } else {
         Err(JoinFault::Clash(Clash::EnumFlag(a, b)))
+    }
+}
+
+/// Whether the second description says all that the first says.
+pub(crate) fn is_below(a: &TypeMeta, b: &TypeMeta) -> bool
+    requires one_type { a.now.type_id ≡ b.now.type_id }
+    requires first { IsInOrder a.now }
+    requires second { IsInOrder b.now }
+    ensures { IsTrue result ↔ Below a.now b.now }
+{
+    if a.name.as_str() != b.name.as_str() {
+        return false;
+    }
+    if a.is_enum != b.is_enum {
+        return false;
+    }
+    if !has_affinity(&b.affinity, &a.affinity) {
+        return false;
+    }
+    if !is_within(a.fields.as_slice(), b.fields.as_slice()) {
+        return false;
+    }
+    if !is_within(a.literals.as_slice(), b.literals.as_slice()) {
+        return false;
+    }
+    is_within(a.schemas.as_slice(), b.schemas.as_slice())
+}
+
+/// Whether an affinity key is the wanted one, if one is wanted.
+fn has_affinity(key: &Option<Text>, wanted: &Option<Text>) -> bool
+    ensures { IsTrue result ↔ IfSome wanted.now (λ name. key.now ≡ Some name) }
+{
+    match (key, wanted) {
+        (_, None) => true,
+        (None, Some(_)) => false,
+        (Some(key), Some(wanted)) => key.as_str() == wanted.as_str(),
     }
 }

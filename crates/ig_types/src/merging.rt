@@ -1,8 +1,9 @@
 //! One merge for the three lists of a description.
 
-ghost use Rattle.std.specs.Prelude.{◌≡◌, ◌++◌, IfOk};
+ghost use Rattle.std.specs.Prelude.{◌≡◌, ◌↔◌, ◌++◌, IfOk, IsTrue};
 ghost use Rattle.std.specs.Prelude.{option_map};
 ghost use Rattle.std.specs.List.Sorted.{IsStrictlySortedBy};
+ghost use Rattle.ig_types.specs.Bound.{Within};
 ghost use Rattle.ig_types.specs.Parts.{with_parts, first_rivals};
 ghost use Rattle.ig_types.specs.Join.{IsOutcome};
 
@@ -58,5 +59,32 @@ pub(crate) fn merge<P: Part>(alloc: Global, mut xs: &[P], mut ys: &[P]) -> Resul
                 ys = after_y;
             }
         }
+    }
+}
+
+/// Whether each part of the first list is one of the second.
+pub(crate) fn is_within<P: Part>(mut xs: &[P], mut ys: &[P]) -> bool
+    requires first { IsStrictlySortedBy P.rank xs.now }
+    requires second { IsStrictlySortedBy P.rank ys.now }
+    ensures { IsTrue result ↔ Within xs.entry.now ys.entry.now }
+{
+    loop {
+        let Some((x, after_x)) = xs.split_first() else {
+            return true;
+        };
+        let Some((y, after_y)) = ys.split_first() else {
+            return false;
+        };
+        match x.compare(y) {
+            Ordering::Less => return false,
+            Ordering::Greater => {}
+            Ordering::Equal => {
+                if !x.is_same(y) {
+                    return false;
+                }
+                xs = after_x;
+            }
+        }
+        ys = after_y;
     }
 }

@@ -11,7 +11,7 @@ ghost use Rattle.ig_types.specs.Registered.{KeepsJoins, IsPutClash, nothing, put
 
 use crate::affinity::affinity_pair;
 use crate::clash::JoinFault;
-use crate::joining::join;
+use crate::joining::{is_below, join};
 use crate::meta::TypeMeta;
 use ig_base::{Items, NoMemory, NoRoom, Text};
 use std::alloc::{AllocFailed, Global};
@@ -68,6 +68,11 @@ impl Registry {
         ensures err { OnErr result (self.new ≡ self.old) }
     {
         let type_id = meta.type_id;
+        if let Some(known) = self.get(type_id) {
+            if is_below(meta, known) {
+                return Ok(());
+            }
+        }
         let joined = self.joined(meta)?;
         self.types.insert(type_id, joined)?;
         Ok(())

@@ -1,9 +1,10 @@
-use Rattle.std.proofs.Common.{rules, w32, to_z, of_z, ◌≡◌, ◌++◌, ◌∷◌, [], List, ℤ, refl, sym, ap, subst}
+use Rattle.std.proofs.Common.{rules, w32, to_z, of_z, ◌≡◌, ◌++◌, ◌∷◌, [], List, ℤ, refl, sym, ap, subst, ◌∙◌}
 use Rattle.std.proofs.lemmas.Int.{to_z-of_z}
+use Rattle.std.specs.FinMap as map
 use Rattle.std.specs.FinMap.{from_entries}
 use Rattle.ig_types.specs.declared.meta.TypeMeta.{TypeMeta}
 use Rattle.ig_types.specs.Registered.{Registered, IsKept, KeepsJoins, after_put}
-use Rattle.ig_types.proofs.Registers.{kept_put, keeps_put, put_is}
+use Rattle.ig_types.proofs.Registers.{kept_put, keeps_put, put_is, Known, known}
 use Rattle.ig_types.proofs.registry.Registry.put.Goals as goal
 
 -- an insert that fails leaves the entries
@@ -33,5 +34,23 @@ returns c =
       outcome = (c.in_ok-joined.ensures.outcome.0, refl);
       clash = tt;
       ok = new;
+      err = tt;
+    }
+
+-- a description that stands there already changes nothing
+pub returns-then-is_below : goal.returns-then-is_below
+returns-then-is_below c =
+    let key : to_z w32 (of_z w32 c.args.meta.now.type_id) ≡ c.args.meta.now.type_id = search rules in
+    let kept : IsKept c.args.self.now = subst IsKept c.self.view_is c.self.invariant in
+    let it : Known c.args.self.now c.args.meta.now =
+        known c.args.self.now c.args.meta.now c.in-Some.known.now kept c.requires
+        (sym (c.in-Some.ensures.found ∙ ap (map.get c.args.self.now.types) key)) (c.if-is_below.ensures.0 refl)
+    in record {
+      keeps = λ ms keeps.
+          subst (λ (r : Registered). KeepsJoins r (ms ++ c.args.meta.now ∷ [])) it.same
+          (keeps_put c.args.self.now c.args.meta.now kept c.requires it.no_clash ms keeps);
+      outcome = (it.no_clash, refl);
+      clash = tt;
+      ok = sym it.same;
       err = tt;
     }
