@@ -1,8 +1,8 @@
 -- Strictly sorted lists: their parts, what they contain, and that what they contain tells them apart.
-use Rattle.std.proofs.Common.{◌≡◌, ◌≢◌, ℕ, zero, suc, ◌⊎◌, List, [], ◌∷◌, ◌<◌, refl, sym, ap, subst, ◌∙◌, inl, inr, arith, Contains, length}
+use Rattle.std.proofs.Common.{◌≡◌, ◌≢◌, true, ℕ, zero, suc, ◌⊎◌, List, [], ◌∷◌, ◌<◌, refl, sym, ap, subst, ◌∙◌, inl, inr, arith, Contains, length}
 use Rattle.std.specs.List.{AllByRecursion}
 use Rattle.std.specs.List.Sorted.{IsStrictlySortedBy}
-use Rattle.std.specs.Ordering.{ordering_reverse}
+use Rattle.std.specs.Ordering.{ordering_reverse, is_lt}
 use Rattle.std.specs.Cmp.{IsTotalOrder}
 use Rattle.std.specs.declared.cmp.Ordering.{Ordering}
 use Rattle.std.specs.declared.cmp.Ordering.TheVariants.{Less, Equal, Greater}
@@ -70,3 +70,33 @@ before_all rank o x y ys less = each_weaker (λ z. rank y z ≡ Less) (λ z. ran
 -- what ties with y stands before all that y stands before
 pub tied_before_all : {X : Type 0} (rank : X → X → Ordering) → IsTotalOrder rank → (x y : X) (ys : List X) → rank x y ≡ Equal → Before rank y ys → Before rank x ys
 tied_before_all rank o x y ys tied = each_weaker (λ z. rank y z ≡ Less) (λ z. rank x z ≡ Less) (λ z less. o.congr x y z tied ∙ less) ys
+
+-- one more in front of a list that ascends
+pub sorted_more : {X : Type 0} (rank : X → X → Ordering) → IsTotalOrder rank → (x y : X) (ys : List X) → rank x y ≡ Less → IsStrictlySortedBy rank (y ∷ ys) → IsStrictlySortedBy rank (x ∷ y ∷ ys)
+sorted_more rank o x y ys less sorted = sorted_cons rank x (y ∷ ys) (less, before_all rank o x y ys less (sorted_first rank y ys sorted)) sorted
+
+-- ---- a walk along a list: what is left, from the last part that was seen, ascends exactly where the whole does
+pub record Ascends {X : Type 0} (rank : X → X → Ordering) (last : X) (rest all : List X) : Type 0 where
+  pub there : IsStrictlySortedBy rank (last ∷ rest) → IsStrictlySortedBy rank all
+  pub back : IsStrictlySortedBy rank all → IsStrictlySortedBy rank (last ∷ rest)
+
+module _ {X : Type 0} (rank : X → X → Ordering) (o : IsTotalOrder rank) where
+  pub ascends_from : (x : X) (xs all : List X) → all ≡ x ∷ xs → Ascends rank x xs all
+  ascends_from x xs all is = record { there = subst (IsStrictlySortedBy rank) (sym is); back = subst (IsStrictlySortedBy rank) is }
+
+  pub ascends_on : (x y : X) (xs ys all : List X) → Ascends rank x xs all → xs ≡ y ∷ ys → rank x y ≡ Less → Ascends rank y ys all
+  ascends_on x y xs ys all walk is less = record {
+    there = λ sorted. walk.there (subst (λ zs. IsStrictlySortedBy rank (x ∷ zs)) (sym is) (sorted_more rank o x y ys less sorted));
+    back = λ sorted. sorted_later rank x (y ∷ ys) (subst (λ zs. IsStrictlySortedBy rank (x ∷ zs)) is (walk.back sorted));
+  }
+
+  pub ascends_end : (x : X) (xs all : List X) → Ascends rank x xs all → xs ≡ [] → IsStrictlySortedBy rank all
+  ascends_end x xs all walk none = walk.there (subst (λ zs. IsStrictlySortedBy rank (x ∷ zs)) (sym none) (sorted_cons rank x [] tt (sorted_nil rank)))
+
+  pub ascends_not : (x y : X) (xs ys all : List X) → Ascends rank x xs all → xs ≡ y ∷ ys → (rank x y ≡ Less → ⊥) → IsStrictlySortedBy rank all → ⊥
+  ascends_not x y xs ys all walk is not sorted = not (sorted_first rank x (y ∷ ys) (subst (λ zs. IsStrictlySortedBy rank (x ∷ zs)) is (walk.back sorted))).0
+
+pub less_from_test : (r : Ordering) → true ≡ is_lt r → r ≡ Less
+less_from_test Less e = refl
+less_from_test Equal e = absurd (cc)
+less_from_test Greater e = absurd (cc)

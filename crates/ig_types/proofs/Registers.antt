@@ -47,25 +47,29 @@ keeps_nothing r none id =
     subst (λ o. MatchOption o (NoneOf id []) (λ t. IsLeastOf t id [])) (sym (ap (λ m. get m id) none ∙ get-empty int_cmp id)) (λ m is_in. absurd (contains_nil m is_in))
 
 -- ---- a description that is put
-module _ (r : Registered) (m : TypeMeta) (kept : IsKept r) (order : IsInOrder m) (none : put_clash r m ≡ None) where
+-- what stands under its identifier
+abbrev pub IsStandingKept : Registered → TypeMeta → Type 0
+IsStandingKept r m = (t : TypeMeta) → get r.types m.type_id ≡ Some t → (t.type_id ≡ m.type_id) × IsInOrder t
+
+module _ (r : Registered) (m : TypeMeta) (stood : IsStandingKept r m) (order : IsInOrder m) (none : put_clash r m ≡ None) where
   -- what it makes with what stood there
-  record Stands (stood : Option TypeMeta) (t : TypeMeta) : Type 0 where
+  record Stands (before : Option TypeMeta) (t : TypeMeta) : Type 0 where
     in_order : IsInOrder t
     its_type : t.type_id ≡ m.type_id
     above : Below m t
-    of_stood : MatchOption stood (t ≡ m) (λ s. Below s t)
-    least : (u : TypeMeta) → MatchOption stood (Unit {0}) (λ s. Below s u) → Below m u → Below t u
+    of_before : MatchOption before (t ≡ m) (λ s. Below s t)
+    least : (u : TypeMeta) → MatchOption before (Unit {0}) (λ s. Below s u) → Below m u → Below t u
 
-  stands_at : (stood : Option TypeMeta) → get r.types m.type_id ≡ stood → option_and_then (λ t. clash_of t m) stood ≡ None → Stands stood (option_map_or (λ t. joined t m) stood m)
-  stands_at None is no_clash = record { in_order = order; its_type = refl; above = below_refl m; of_stood = refl; least = λ u _ below. below }
+  stands_at : (before : Option TypeMeta) → get r.types m.type_id ≡ before → option_and_then (λ t. clash_of t m) before ≡ None → Stands before (option_map_or (λ t. joined t m) before m)
+  stands_at None is no_clash = record { in_order = order; its_type = refl; above = below_refl m; of_before = refl; least = λ u _ below. below }
   stands_at (Some t) is no_clash =
-      let known = kept m.type_id t is in
+      let known = stood t is in
       let it : Joins t m = joins t m known.0 known.1 order no_clash in
       record {
         in_order = it.in_order;
         its_type = sym it.is_least.first.type_id ∙ known.0;
         above = it.is_least.second;
-        of_stood = it.is_least.first;
+        of_before = it.is_least.first;
         least = it.is_least.least;
       }
 
@@ -82,8 +86,8 @@ module _ (r : Registered) (m : TypeMeta) (kept : IsKept r) (order : IsInOrder m)
   other_ids : (id : ℤ) → eq_by_cmp int_cmp id m.type_id ≡ false → m.type_id ≢ id
   other_ids id is e = let tied : int_cmp id m.type_id ≡ Equal = rw (← e) (tied_itself int_cmp_total m.type_id) in let no : is_eq (int_cmp id m.type_id) ≡ true = ap is_eq tied in cc
 
-  pub kept_put : IsKept (after_put r m)
-  kept_put id t is =
+  pub kept_put : IsKept r → IsKept (after_put r m)
+  kept_put kept id t is =
       elim (eq_by_cmp int_cmp id m.type_id) as (λ b. eq_by_cmp int_cmp id m.type_id ≡ b → cond b (Some (put_type r m)) (get r.types id) ≡ Some t → (t.type_id ≡ id) × IsInOrder t) [
         | true ↦ λ e f.
             let one : put_type r m ≡ t = cc in
@@ -96,7 +100,7 @@ module _ (r : Registered) (m : TypeMeta) (kept : IsKept r) (order : IsInOrder m)
     last : Contains (ms ++ m ∷ []) m
     last = Contains-push ms m
 
-    here : (stood : Option TypeMeta) (t : TypeMeta) → Stands stood t → MatchOption stood (NoneOf m.type_id ms) (λ s. IsLeastOf s m.type_id ms) → IsLeastOf t m.type_id (ms ++ m ∷ [])
+    here : (before : Option TypeMeta) (t : TypeMeta) → Stands before t → MatchOption before (NoneOf m.type_id ms) (λ s. IsLeastOf s m.type_id ms) → IsLeastOf t m.type_id (ms ++ m ∷ [])
     here None t stand none_of = record {
       above = λ x is_in its. elim (Contains-push_cases ms m x is_in) [
         | inl before ↦ absurd (none_of x before its)
@@ -106,7 +110,7 @@ module _ (r : Registered) (m : TypeMeta) (kept : IsKept r) (order : IsInOrder m)
     }
     here (Some s) t stand least_of = record {
       above = λ x is_in its. elim (Contains-push_cases ms m x is_in) [
-        | inl before ↦ below_trans x s t (least_of.above x before its) stand.of_stood
+        | inl before ↦ below_trans x s t (least_of.above x before its) stand.of_before
         | inr e ↦ subst (λ z. Below z t) e stand.above
       ];
       least = λ u all. stand.least u (least_of.least u (λ x before its. all x (Contains-append_left ms (m ∷ []) x before) its)) (all m last refl);
@@ -174,14 +178,13 @@ pub record Known (r : Registered) (m : TypeMeta) : Type 0 where
   pub no_clash : put_clash r m ≡ None
   pub same : after_put r m ≡ r
 
-pub known : (r : Registered) (m t : TypeMeta) → IsKept r → IsInOrder m → get r.types m.type_id ≡ Some t → Below m t → Known r m
-known r m t kept order found below =
-    let its = kept m.type_id t found in
+pub known : (r : Registered) (m t : TypeMeta) → (t.type_id ≡ m.type_id) × IsInOrder t → IsInOrder m → get r.types m.type_id ≡ Some t → Below m t → Known r m
+known r m t its order found below =
     let none : clash_of t m ≡ None = no_clash_below t m t its.1 its.1 (below_refl t) below in
     let it : Joins t m = joins t m its.0 its.1 order none in
     let type : joined t m ≡ t = same_from_below (joined t m) t it.in_order its.1 (it.is_least.least t (below_refl t) below) it.is_least.first in
     let put : put_type r m ≡ t = ap (λ o. option_map_or (λ s. joined s m) o m) found ∙ type in
-    let types : insert r.types m.type_id (put_type r m) ≡ r.types = same_map int_cmp_total exact_signed _ _ (λ q. after r m kept order (ap (option_and_then (λ s. clash_of s m)) found ∙ none) q ∙ unchanged q (put_type r m) put) in
+    let types : insert r.types m.type_id (put_type r m) ≡ r.types = same_map int_cmp_total exact_signed _ _ (λ q. get-insert int_cmp_total r.types m.type_id (put_type r m) q ∙ unchanged q (put_type r m) put) in
     record { no_clash = ap (option_and_then (λ s. clash_of s m)) found ∙ none; same = λ i. record { types = types i; names = r.names } }
   where
     unchanged : (q : ℤ) (p : TypeMeta) → p ≡ t → cond (eq_by_cmp int_cmp q m.type_id) (Some p) (get r.types q) ≡ get r.types q
@@ -190,3 +193,6 @@ known r m t kept order found below =
           | true ↦ λ e. ap Some is ∙ sym found ∙ sym (ap (get r.types) (tied_ids q m.type_id e))
           | false ↦ λ e. refl
         ] refl
+
+pub standing_kept : (r : Registered) (m t : TypeMeta) → (t.type_id ≡ m.type_id) × IsInOrder t → get r.types m.type_id ≡ Some t → IsStandingKept r m
+standing_kept r m t its found u is = let one : t ≡ u = cc in subst (λ x. (x.type_id ≡ m.type_id) × IsInOrder x) one its

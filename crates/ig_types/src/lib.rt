@@ -6,6 +6,7 @@ mod clash;
 mod joining;
 mod merging;
 mod meta;
+mod order;
 mod part;
 mod registry;
 

@@ -1,7 +1,8 @@
 //! The description of a type.
 
-ghost use Rattle.std.specs.Prelude.{◌≡◌, IfOk};
+ghost use Rattle.std.specs.Prelude.{◌≡◌, ◌↔◌, IsTrue, IfOk};
 
+use crate::order::is_ascending;
 use crate::merging::with_copies;
 use ig_base::{Items, NoMemory, Text};
 use std::alloc::Global;
@@ -55,6 +56,24 @@ pub(crate) fn copy_text(alloc: Global, text: &Text) -> Result<Text, NoMemory>
 }
 
 impl TypeMeta {
+    ghost use Rattle.ig_types.specs.Bound.{IsInOrder};
+
+    /// Whether the description is in order, as every call that takes one wants it.
+    pub fn is_in_order(&self) -> bool
+        ensures { IsTrue result ↔ IsInOrder self.now }
+    {
+        if !is_ascending(self.fields.as_slice()) {
+            return false;
+        }
+        if !is_ascending(self.literals.as_slice()) {
+            return false;
+        }
+        if !is_ascending(self.schemas.as_slice()) {
+            return false;
+        }
+        self.is_enum || self.literals.as_slice().is_empty()
+    }
+
     /// The same description, in memory of its own.
     pub fn copy(&self, alloc: Global) -> Result<TypeMeta, NoMemory>
         ensures { IfOk result (λ copy. copy ≡ self.now) }

@@ -68,10 +68,10 @@ impl Registry {
         ensures err { OnErr result (self.new ≡ self.old) }
     {
         let type_id = meta.type_id;
-        if let Some(known) = self.get(type_id) {
-            if is_below(meta, known) {
-                return Ok(());
-            }
+        if let Some(known) = self.get(type_id)
+            && is_below(meta, known)
+        {
+            return Ok(());
         }
         let joined = self.joined(meta)?;
         self.types.insert(type_id, joined)?;
