@@ -190,8 +190,8 @@ joined_in_order a b first second agree = record {
   literals = sorted_with_parts by_literal by_literal_total a.literals b.literals first.literals;
   schemas = sorted_with_parts by_schema by_schema_total a.schemas b.schemas first.schemas;
   plain = λ no_enum.
-    ap (λ xs. with_parts by_literal xs b.literals) (first.plain no_enum)
-    ∙ ap (with_parts by_literal []) (second.plain (sym agree.heads.is_enum ∙ no_enum));
+      ap (λ xs. with_parts by_literal xs b.literals) (first.plain no_enum)
+      ∙ ap (with_parts by_literal []) (second.plain (sym agree.heads.is_enum ∙ no_enum));
 }
 
 pub joined_is_least : (a b : TypeMeta) → a.type_id ≡ b.type_id → IsInOrder b → AgreeOnAll a b → IsLeastAbove a b (joined a b)

@@ -10,11 +10,12 @@ pub join_commutes : JoinCommutes
 join_commutes a b first second one_type none =
     let there : Joins a b = joins a b one_type first second none in
     let back_none : clash_of b a ≡ None = no_clash_below b a (joined a b) second there.in_order there.is_least.second there.is_least.first in
-    let back : Joins b a = joins b a (sym one_type) second first back_none in
-    (back_none,
-     same_from_below (joined b a) (joined a b) back.in_order there.in_order
-       (back.is_least.least (joined a b) there.is_least.second there.is_least.first)
-       (there.is_least.least (joined b a) back.is_least.second back.is_least.first))
+    let back : Joins b a = joins b a (sym one_type) second first back_none in (
+      back_none,
+      same_from_below (joined b a) (joined a b) back.in_order there.in_order
+          (back.is_least.least (joined a b) there.is_least.second there.is_least.first)
+          (there.is_least.least (joined b a) back.is_least.second back.is_least.first),
+    )
 
 module _ (a b c : TypeMeta) (a_order : IsInOrder a) (b_order : IsInOrder b) (c_order : IsInOrder c) (ab : a.type_id ≡ b.type_id) (bc : b.type_id ≡ c.type_id) where
   -- what is above all three

@@ -51,7 +51,7 @@ module _ {X Y : Type 0} (f : X → Option Y) where
   unfiltered [] y is_in = absurd (contains_nil y is_in)
   unfiltered (z ∷ zs) y is_in =
       let later : Contains (filter_map f zs) y → (x : X) × Contains (z ∷ zs) x × (f x ≡ Some y) =
-          λ h. let it = unfiltered zs y h in (it.0, contains_later z zs it.0 it.1, it.2) in
+      λ h. let it = unfiltered zs y h in (it.0, contains_later z zs it.0 it.1, it.2) in
       elim (f z) as (λ o. f z ≡ o → Contains (cons_option o (filter_map f zs)) y → (x : X) × Contains (z ∷ zs) x × (f x ≡ Some y)) [
         | None ↦ λ is h. later h
         | Some w ↦ λ is h. elim (contains_cases w (filter_map f zs) y h) [
@@ -81,6 +81,7 @@ named_by t id field is = at_key t.affinity refl is
         let name : f.name ≡ key = (same_name_exact f.name key).0 it.1 in
         let pair : ◌≡◌ {A = ℤ × ℤ} (t.type_id, f.id) (id, field) = cc in
         (ap (λ (p : ℤ × ℤ). p.0) pair, (f, it.0, is_key ∙ ap Some (sym name), ap (λ (p : ℤ × ℤ). p.1) pair))
+
     at_key : (o : Option (List ℕ)) → t.affinity ≡ o → option_and_then (λ key. option_map {U = ℤ × ℤ} (λ (f : FieldMeta). (t.type_id, f.id)) (field_named t.fields key)) o ≡ Some (id, field)
         → (t.type_id ≡ id) × ((f : FieldMeta) × Contains t.fields f × (t.affinity ≡ Some f.name) × (f.id ≡ field))
     at_key None is_key e = absurd (cc)
@@ -131,6 +132,7 @@ module _ (r : Registered) (es : List (ℤ × TypeMeta)) (sorted : IsStrictlySort
             named = by.1.2;
             its_id = by.1.3;
           }
+
       back : IsAffinityPair r id field → Contains (filter_map affinity_pair (values_of es)) (id, field)
       back pair =
           let at : lookup (is_at (int_cmp id)) es ≡ Some pair.type = sym (got_at id) ∙ pair.found in
@@ -141,9 +143,10 @@ module _ (r : Registered) (es : List (ℤ × TypeMeta)) (sorted : IsStrictlySort
 -- what holds of what is found holds of each entry
 each_entry : (P : ℤ → TypeMeta → Type 0) (es : List (ℤ × TypeMeta)) → IsStrictlySortedBy int_cmp (keys_of es) → ((id : ℤ) (t : TypeMeta) → lookup (is_at (int_cmp id)) es ≡ Some t → P id t) → AllByRecursion (λ (e : ℤ × TypeMeta). P e.0 e.1) es
 each_entry P [] sorted holds = tt
-each_entry P (e ∷ es) sorted holds =
-    (holds e.0 e.1 (ap (λ r. cond (is_eq r) (Some e.1) (lookup (is_at (int_cmp e.0)) es)) (tied_itself int_cmp_total e.0)),
-     each_entry P es (sorted_later int_cmp e.0 (keys_of es) sorted) (λ id t found. holds id t (found_later int_cmp int_cmp_total id t e es (sorted_first int_cmp e.0 (keys_of es) sorted) found)))
+each_entry P (e ∷ es) sorted holds = (
+  holds e.0 e.1 (ap (λ r. cond (is_eq r) (Some e.1) (lookup (is_at (int_cmp e.0)) es)) (tied_itself int_cmp_total e.0)),
+  each_entry P es (sorted_later int_cmp e.0 (keys_of es) sorted) (λ id t found. holds id t (found_later int_cmp int_cmp_total id t e es (sorted_first int_cmp e.0 (keys_of es) sorted) found)),
+)
 
 each_value : (P : TypeMeta → Type 0) (es : List (ℤ × TypeMeta)) → AllByRecursion (λ (e : ℤ × TypeMeta). P e.1) es → AllByRecursion P (values_of es)
 each_value P [] all = tt
@@ -164,8 +167,8 @@ pairs_ascend (e ∷ es) sorted ids =
           let first : e.0 ≡ p.0 = sym ids.0 ∙ (named_by e.1 p.0 p.1 is).0 in
           sorted_cons by_type p (filter_map affinity_pair (values_of es))
           (each_filtered affinity_pair (λ (t : TypeMeta). int_cmp e.0 t.type_id ≡ Less) (λ q. by_type p q ≡ Less)
-            (λ t q less has. sym (ap (λ k. int_cmp k q.0) first) ∙ sym (ap (int_cmp e.0) (named_by t q.0 q.1 has).0) ∙ less)
-            (values_of es) (behind e.0 es (sorted_first int_cmp e.0 (keys_of es) sorted) ids.1))
+          (λ t q less has. sym (ap (λ k. int_cmp k q.0) first) ∙ sym (ap (int_cmp e.0) (named_by t q.0 q.1 has).0) ∙ less)
+          (values_of es) (behind e.0 es (sorted_first int_cmp e.0 (keys_of es) sorted) ids.1))
           rest
     ] refl
 

@@ -152,7 +152,7 @@ pub put_is : (r : Registered) (es fs : List (ℤ × TypeMeta)) (names : FinMap b
     → ◌≡◌ {A = Registered} (record { types = from_entries fs; names = names }) (after_put r m)
 put_is r es fs names m t key is_types is_names is_key is_type updates =
     let types : from_entries fs ≡ insert r.types m.type_id (put_type r m) =
-        inserted int_cmp int_cmp_total exact_signed es fs key t updates ∙ ap (λ ts. insert ts key t) is_types ∙ ap (λ k. insert r.types k t) is_key ∙ ap (insert r.types m.type_id) is_type in
+    inserted int_cmp int_cmp_total exact_signed es fs key t updates ∙ ap (λ ts. insert ts key t) is_types ∙ ap (λ k. insert r.types k t) is_key ∙ ap (insert r.types m.type_id) is_type in
     λ i. record { types = types i; names = is_names i }
 
 pub name_is : (r : Registered) (es fs : List ((ℕ × ℤ) × List ℕ)) (types : FinMap int_cmp TypeMeta) (place key : ℕ × ℤ) (name : List ℕ)
@@ -161,9 +161,9 @@ pub name_is : (r : Registered) (es fs : List ((ℕ × ℤ) × List ℕ)) (types 
     → ◌≡◌ {A = Registered} (record { types = types; names = from_entries fs }) (after_name r place name)
 name_is r es fs types place key name is_types is_names is_key none updates =
     let names : from_entries fs ≡ insert r.names place name =
-        inserted by_place by_place_total by_place_exact es fs key name updates ∙ ap (λ ns. insert ns key name) is_names ∙ ap (λ k. insert r.names k name) is_key in
+    inserted by_place by_place_total by_place_exact es fs key name updates ∙ ap (λ ns. insert ns key name) is_names ∙ ap (λ k. insert r.names k name) is_key in
     let whole : ◌≡◌ {A = Registered} (record { types = types; names = from_entries fs }) (record { types = r.types; names = insert r.names place name }) =
-        λ i. record { types = is_types i; names = names i } in
+    λ i. record { types = is_types i; names = names i } in
     whole ∙ ap (λ o. option_map_or (λ _. r) o (record r { names = insert r.names place name })) (sym none)
 
 -- then the name stands there

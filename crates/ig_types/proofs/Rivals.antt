@@ -73,6 +73,7 @@ module _ {X : Type 0} (rank : X → X → Ordering) (same : X → X → Bool) (e
       tied Less b e = absurd (cc)
       tied Equal b e = refl
       tied Greater b e = absurd (cc)
+
       apart : (r : Ordering) (b : Bool) → is_eq r && not b ≡ true → b ≡ true → ⊥
       apart Less b e is = cc
       apart Equal true e is = cc
@@ -104,6 +105,7 @@ module _ {X : Type 0} (rank : X → X → Ordering) (same : X → X → Bool) (e
               differ = record { of_first = contains_first x xs; of_second = it.0; one_key = it.1; apart = it.2 };
               none_before = first_stays_first x y xs ys sorted;
             }
+
         later : rival rank same x ys ≡ None → DifferFirst rank xs ys p.0 p.1 → DifferFirst rank (x ∷ xs) ys p.0 p.1
         later none first = record {
           differ = record { of_first = contains_later x xs p.0 first.differ.of_first; of_second = first.differ.of_second; one_key = first.differ.one_key; apart = first.differ.apart };

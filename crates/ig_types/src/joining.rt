@@ -39,14 +39,12 @@ pub fn join(alloc: Global, a: &TypeMeta, b: &TypeMeta) -> Result<TypeMeta, JoinF
 /// Law: where two descriptions join, they join in the other order too, and to the same.
 pub fn join_commutes()
     ensures { JoinCommutes }
-{
-}
+{}
 
 /// Law: where three descriptions join from either end, they join from both, and to the same.
 pub fn join_associates()
     ensures { JoinAssociates }
-{
-}
+{}
 
 #[tactic(auto, unfolding(crate::specs::Join::clash_of, crate::specs::Join::joined))]
 fn join_parts(alloc: Global, a: &TypeMeta, b: &TypeMeta) -> Result<TypeMeta, JoinFault>
@@ -80,7 +78,11 @@ fn join_names(alloc: Global, a: &Text, b: &Text) -> Result<Text, JoinFault>
     Ok(copy_text(alloc, a)?)
 }
 
-fn join_affinities(alloc: Global, a: &Option<Text>, b: &Option<Text>) -> Result<Option<Text>, JoinFault>
+fn join_affinities(
+    alloc: Global,
+    a: &Option<Text>,
+    b: &Option<Text>,
+) -> Result<Option<Text>, JoinFault>
     ensures { IsOutcome result (affinity_clash a.now b.now) (option_or a.now b.now) }
 {
     match (a, b) {

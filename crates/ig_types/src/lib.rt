@@ -9,6 +9,8 @@ mod meta;
 mod order;
 mod part;
 mod registry;
+#[cfg(test)]
+mod tests;
 
 pub use clash::{Clash, JoinFault};
 pub use joining::{join, join_associates, join_commutes};

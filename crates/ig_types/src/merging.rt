@@ -14,7 +14,11 @@ use std::alloc::Global;
 use std::cmp::Ordering;
 
 /// The parts, with copies of the rest behind them.
-pub(crate) fn with_copies<P: Part>(alloc: Global, mut parts: Vec<P>, rest: &[P]) -> Result<Items<P>, NoMemory>
+pub(crate) fn with_copies<P: Part>(
+    alloc: Global,
+    mut parts: Vec<P>,
+    rest: &[P],
+) -> Result<Items<P>, NoMemory>
     ensures { IfOk result (λ all. all ≡ parts.items ++ rest.now) }
 {
     for part in rest {
@@ -24,14 +28,16 @@ pub(crate) fn with_copies<P: Part>(alloc: Global, mut parts: Vec<P>, rest: &[P])
 }
 
 /// Merges two lists of parts, or names the first clash.
-pub(crate) fn merge<P: Part>(alloc: Global, mut xs: &[P], mut ys: &[P]) -> Result<Items<P>, JoinFault>
+pub(crate) fn merge<P: Part>(
+    alloc: Global,
+    mut xs: &[P],
+    mut ys: &[P],
+) -> Result<Items<P>, JoinFault>
     requires first { IsStrictlySortedBy P.rank xs.now }
     requires second { IsStrictlySortedBy P.rank ys.now }
-    ensures {
-        IsOutcome result
-            (option_map (λ p. P.clash p.0 p.1) (first_rivals P.rank P.same xs.entry.now ys.entry.now))
-            (with_parts P.rank xs.entry.now ys.entry.now)
-    }
+    ensures { IsOutcome result
+        (option_map (λ p. P.clash p.0 p.1) (first_rivals P.rank P.same xs.entry.now ys.entry.now))
+        (with_parts P.rank xs.entry.now ys.entry.now) }
 {
     let mut parts = Vec::with_capacity(alloc, xs.len().max(ys.len()))?;
     loop {

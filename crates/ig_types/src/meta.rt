@@ -2,8 +2,8 @@
 
 ghost use Rattle.std.specs.Prelude.{◌≡◌, ◌↔◌, IsTrue, IfOk};
 
-use crate::order::is_ascending;
 use crate::merging::with_copies;
+use crate::order::is_ascending;
 use ig_base::{Items, NoMemory, Text};
 use std::alloc::Global;
 

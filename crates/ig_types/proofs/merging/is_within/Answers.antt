@@ -14,7 +14,7 @@ returns-in-Less g c =
 pub returns-then-not-is_same : goal.returns-then-not-is_same
 returns-then-not-is_same g c =
     refused (missing_tied _ g.met.P.Part.ranked _ _ _ _ _ _ _ _ c.loop-x.invariant c.in-Some.ensures.cases.0 c.in-Some-split_first.ensures.cases.0 c.in-Equal.ensures
-      (λ e. let same : g.P.Part.same c.in-Some.x.now c.in-Some-split_first.y.now ≡ true = (g.met.P.Part.exact c.in-Some.x.now c.in-Some-split_first.y.now).1 e in cc))
+    (λ e. let same : g.P.Part.same c.in-Some.x.now c.in-Some-split_first.y.now ≡ true = (g.met.P.Part.exact c.in-Some.x.now c.in-Some-split_first.y.now).1 e in cc))
 
 pub loop-x-preserved-in-Greater : goal.loop-x-preserved-in-Greater
 loop-x-preserved-in-Greater g c =

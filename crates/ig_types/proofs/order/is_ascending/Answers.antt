@@ -13,7 +13,7 @@ returns-in_default g c =
 pub returns-then-not-is_lt : goal.returns-then-not-is_lt
 returns-then-not-is_lt g c =
     refused (ascends_not _ g.met.P.Part.ranked _ _ _ _ _ c.loop-next.invariant c.in-Some-split_first.ensures.cases.0
-      (λ less. let yes : is_lt c.compare.result ≡ true = ap is_lt (c.compare.ensures ∙ less) in cc))
+    (λ less. let yes : is_lt c.compare.result ≡ true = ap is_lt (c.compare.ensures ∙ less) in cc))
 
 pub loop-next-preserved : goal.loop-next-preserved
 loop-next-preserved g c =

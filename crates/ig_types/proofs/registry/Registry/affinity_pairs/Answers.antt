@@ -36,8 +36,8 @@ loop-meta-preserved c = record {
 pub returns : goal.returns
 returns c =
     let are : c.new.result ≡ pairs_of c.args.self.now =
-        c.new.ensures ∙ sym (append-nil c.loop-meta.pairs.items)
-        ∙ sym (ap (λ ts. c.loop-meta.pairs.items ++ filter_map affinity_pair ts) c.in-None.ensures.steps.0) ∙ c.loop-meta.invariant.told in
+    c.new.ensures ∙ sym (append-nil c.loop-meta.pairs.items)
+    ∙ sym (ap (λ ts. c.loop-meta.pairs.items ++ filter_map affinity_pair ts) c.in-None.ensures.steps.0) ∙ c.loop-meta.invariant.told in
     let it : ShowsPairs c.args.self.now c.new.result =
-        shows_pairs c.args.self.now c.self.inside.types.entries c.values-meta-items.ensures.ordered (ap (λ r. r.types) c.self.view_is) (subst IsKept c.self.view_is c.self.invariant) c.new.result are
+    shows_pairs c.args.self.now c.self.inside.types.entries c.values-meta-items.ensures.ordered (ap (λ r. r.types) c.self.view_is) (subst IsKept c.self.view_is c.self.invariant) c.new.result are
     in record { ascending = it.ascending; exactly = it.exactly; pairs = are }

@@ -17,8 +17,9 @@ pub returns-in-Ok-clause-stands : goal.returns-in-Ok-clause-stands
 returns-in-Ok-clause-stands c =
     let key : to_z w32 (of_z w32 c.args.type_id) ≡ c.args.type_id = to_z-of_z w32 c.args.type_id c.ranges.type_id in
     let new : ◌≡◌ {A = Registered} (record { types = from_entries c.self.inside.types.entries; names = from_entries c.insert.new.self.entries }) (after_name c.args.self.now (c.args.platform, c.args.type_id) c.args.name) =
-        returns-in-Ok-clause-ok c in
-    (λ _.
-       ap (λ (r : Registered). map.get r.names (c.args.platform, c.args.type_id)) new
-       ∙ name_stands c.args.self.now (c.args.platform, c.args.type_id) c.args.name (sym (c.in_default.ensures ∙ ap (λ id. map.get c.args.self.now.names (c.args.platform, id)) key)),
-     λ _. refl)
+    returns-in-Ok-clause-ok c in (
+      λ _.
+          ap (λ (r : Registered). map.get r.names (c.args.platform, c.args.type_id)) new
+          ∙ name_stands c.args.self.now (c.args.platform, c.args.type_id) c.args.name (sym (c.in_default.ensures ∙ ap (λ id. map.get c.args.self.now.names (c.args.platform, id)) key)),
+      λ _. refl,
+    )
