@@ -1,5 +1,5 @@
 use super::*;
-use ig_base::{Items, Text};
+use ig_base::{Items, NoMemory, Text};
 use std::alloc::{AllocError, Global};
 use std::fmt::Debug;
 use std::test::Fail;
@@ -119,89 +119,108 @@ fn outcome(alloc: Global, a: &str, b: &str) -> Result<String, AllocError> {
     }
 }
 
+/// Two rows, and their join.
+static JOINS: [(&str, &str, &str); 7] = [
+    ("P", "P", "P"),
+    (
+        "P; field a 3 97",
+        "P; field b 9 98",
+        "P; field a 3 97; field b 9 98",
+    ),
+    (
+        "P; field b 9 98; field é 9 98",
+        "P; field a 3 97; field b 9 98; field bb 1 0; field z 1 0",
+        "P; field a 3 97; field b 9 98; field bb 1 0; field z 1 0; field é 9 98",
+    ),
+    ("P; key a", "P", "P; key a"),
+    ("P", "P; key a", "P; key a"),
+    (
+        "P; enum; literal A 0",
+        "P; enum; literal B 1",
+        "P; enum; literal A 0; literal B 1",
+    ),
+    (
+        "P; schema -7 97; schema 4",
+        "P; schema -7 97; schema 0 1 2",
+        "P; schema -7 97; schema 0 1 2; schema 4",
+    ),
+];
+
+/// The first row whose join isn't the wanted one.
+fn wrong_join(alloc: Global) -> Result<Option<&'static str>, NoMemory> {
+    for &(a, b, want) in &JOINS {
+        let want = described(alloc, 5, want)?.copy(alloc)?;
+        if outcome(alloc, a, b)? != shown(alloc, &want)? {
+            return Ok(Some(a));
+        }
+    }
+    Ok(None)
+}
+
 #[test]
 fn joins(rt: HostRuntime) -> Result<(), Fail> {
-    let alloc = rt.alloc();
-    for (a, b, want) in [
-        ("P", "P", "P"),
-        (
-            "P; field a 3 97",
-            "P; field b 9 98",
-            "P; field a 3 97; field b 9 98",
-        ),
-        (
-            "P; field b 9 98; field é 9 98",
-            "P; field a 3 97; field b 9 98; field bb 1 0; field z 1 0",
-            "P; field a 3 97; field b 9 98; field bb 1 0; field z 1 0; field é 9 98",
-        ),
-        ("P; key a", "P", "P; key a"),
-        ("P", "P; key a", "P; key a"),
-        (
-            "P; enum; literal A 0",
-            "P; enum; literal B 1",
-            "P; enum; literal A 0; literal B 1",
-        ),
-        (
-            "P; schema -7 97; schema 4",
-            "P; schema -7 97; schema 0 1 2",
-            "P; schema -7 97; schema 0 1 2; schema 4",
-        ),
-    ] {
-        let want = described(alloc, 5, want)?;
-        assert_eq!(rt; outcome(alloc, a, b)?, shown(alloc, &want)?);
-        assert_eq!(rt; shown(alloc, &want.copy(alloc)?)?, shown(alloc, &want)?);
-    }
     join_commutes();
     join_associates();
+    assert_eq!(rt; wrong_join(rt.alloc())?, None);
     Ok(())
+}
+
+/// Two rows that clash, the kind of their first clash, and what each of the two says.
+static CLASHES: [(&str, &str, &str, &str, &str); 8] = [
+    ("O; key a; enum", "P; key b", "name", "O", "P"),
+    ("P; key a; enum", "P; key b", "affinity", "a", "b"),
+    (
+        "P; enum; field a 3 97",
+        "P; field a 4 97",
+        "flag",
+        "enum",
+        "",
+    ),
+    ("P", "P; enum; literal A 0", "flag", "", "enum"),
+    (
+        "P; field a 3 97",
+        "P; field a 4 97",
+        "field",
+        "a 3 97",
+        "a 4 97",
+    ),
+    (
+        "P; field a 3 1; field b 3 2; field c 3 3; enum; literal A 0",
+        "P; field b 3 7; field c 4 3; enum; literal A 1",
+        "field",
+        "b 3 2",
+        "b 3 7",
+    ),
+    (
+        "P; enum; literal A 0; literal B 1; schema 1 1",
+        "P; enum; literal A 0; literal B 2; schema 1 2",
+        "literal",
+        "B 1",
+        "B 2",
+    ),
+    (
+        "P; schema -1 1 2; schema 1 1",
+        "P; schema -1 1; schema 1 2",
+        "schema",
+        "-1 1 2",
+        "-1 1",
+    ),
+];
+
+/// The first row that clashes otherwise.
+fn wrong_clash(alloc: Global) -> Result<Option<&'static str>, AllocError> {
+    for &(a, b, kind, of_a, of_b) in &CLASHES {
+        let want = JoinFault::Clash(clash(alloc, kind, of_a, of_b)?);
+        if outcome(alloc, a, b)? != shown(alloc, &want)? {
+            return Ok(Some(a));
+        }
+    }
+    Ok(None)
 }
 
 #[test]
 fn clashes(rt: HostRuntime) -> Result<(), Fail> {
-    let alloc = rt.alloc();
-    for (a, b, kind, of_a, of_b) in [
-        ("O; key a; enum", "P; key b", "name", "O", "P"),
-        ("P; key a; enum", "P; key b", "affinity", "a", "b"),
-        (
-            "P; enum; field a 3 97",
-            "P; field a 4 97",
-            "flag",
-            "enum",
-            "",
-        ),
-        ("P", "P; enum; literal A 0", "flag", "", "enum"),
-        (
-            "P; field a 3 97",
-            "P; field a 4 97",
-            "field",
-            "a 3 97",
-            "a 4 97",
-        ),
-        (
-            "P; field a 3 1; field b 3 2; field c 3 3; enum; literal A 0",
-            "P; field b 3 7; field c 4 3; enum; literal A 1",
-            "field",
-            "b 3 2",
-            "b 3 7",
-        ),
-        (
-            "P; enum; literal A 0; literal B 1; schema 1 1",
-            "P; enum; literal A 0; literal B 2; schema 1 2",
-            "literal",
-            "B 1",
-            "B 2",
-        ),
-        (
-            "P; schema -1 1 2; schema 1 1",
-            "P; schema -1 1; schema 1 2",
-            "schema",
-            "-1 1 2",
-            "-1 1",
-        ),
-    ] {
-        let want = JoinFault::Clash(clash(alloc, kind, of_a, of_b)?);
-        assert_eq!(rt; outcome(alloc, a, b)?, shown(alloc, &want)?);
-    }
+    assert_eq!(rt; wrong_clash(rt.alloc())?, None);
     Ok(())
 }
 
@@ -220,59 +239,77 @@ fn put(alloc: Global, registry: &mut Registry, id: i32, row: &str) -> Result<Str
     format!(in alloc; "{word}{stands:?}")
 }
 
+/// What is put in turn, the word that is shown with it, and what stands then.
+static PUTS: [(i32, &str, &str, &str); 7] = [
+    (5, "P; field a 3 97", "", "P; field a 3 97"),
+    (
+        5,
+        "P; key b; field b 9 98",
+        "",
+        "P; key b; field a 3 97; field b 9 98",
+    ),
+    (
+        5,
+        "P; field a 3 97",
+        "",
+        "P; key b; field a 3 97; field b 9 98",
+    ),
+    (
+        5,
+        "P; field a 4 97",
+        "no ",
+        "P; key b; field a 3 97; field b 9 98",
+    ),
+    (5, "P; key a", "no ", "P; key b; field a 3 97; field b 9 98"),
+    (-5, "P; key b; field b 9 98", "", "P; key b; field b 9 98"),
+    (0, "P; key c; field b 9 98", "", "P; key c; field b 9 98"),
+];
+
+/// The first row that leaves something else.
+fn wrong_put(alloc: Global, registry: &mut Registry) -> Result<Option<&'static str>, AllocError> {
+    for &(id, row, word, stands) in &PUTS {
+        let want = Some(described(alloc, id, stands)?);
+        if put(alloc, registry, id, row)? != format!(in alloc; "{word}{want:?}")? {
+            return Ok(Some(row));
+        }
+    }
+    Ok(None)
+}
+
 #[test]
 fn registers(rt: HostRuntime) -> Result<(), Fail> {
-    let alloc = rt.alloc();
-    let mut registry = Registry::new(alloc);
+    let mut registry = Registry::new(rt.alloc());
     assert!(rt; registry.get(5).is_none());
-    for (id, row, word, stands) in [
-        (5, "P; field a 3 97", "", "P; field a 3 97"),
-        (
-            5,
-            "P; key b; field b 9 98",
-            "",
-            "P; key b; field a 3 97; field b 9 98",
-        ),
-        (
-            5,
-            "P; field a 3 97",
-            "",
-            "P; key b; field a 3 97; field b 9 98",
-        ),
-        (
-            5,
-            "P; field a 4 97",
-            "no ",
-            "P; key b; field a 3 97; field b 9 98",
-        ),
-        (5, "P; key a", "no ", "P; key b; field a 3 97; field b 9 98"),
-        (-5, "P; key b; field b 9 98", "", "P; key b; field b 9 98"),
-        (0, "P; key c; field b 9 98", "", "P; key c; field b 9 98"),
-    ] {
-        let want = Some(described(alloc, id, stands)?);
-        let want = format!(in alloc; "{word}{want:?}")?;
-        assert_eq!(rt; put(alloc, &mut registry, id, row)?, want);
-    }
-    let pairs = registry.affinity_pairs(alloc)?;
+    assert_eq!(rt; wrong_put(rt.alloc(), &mut registry)?, None);
+    let pairs = registry.affinity_pairs(rt.alloc())?;
     assert_eq!(rt; pairs.as_slice(), [(-5, 98), (5, 98)].as_slice());
     Ok(())
 }
 
+/// What is named in turn, whether that is done, and the name that stands then.
+static NAMES: [(u8, i32, &str, bool, &str); 5] = [
+    (0, 5, "P", true, "P"),
+    (0, 5, "Q", false, "P"),
+    (0, 5, "P", true, "P"),
+    (1, 5, "Q", true, "Q"),
+    (0, -5, "", true, ""),
+];
+
+/// The first name that is set otherwise.
+fn wrong_name(alloc: Global) -> Result<Option<&'static str>, AllocError> {
+    let mut registry = Registry::new(alloc);
+    for &(platform, id, name, want, stands) in &NAMES {
+        let yes = registry.set_name(platform, id, text(alloc, name)?).ok();
+        let found = registry.name(platform, id).map(Text::as_str);
+        if yes != Some(want) || found != Some(stands) {
+            return Ok(Some(name));
+        }
+    }
+    Ok(None)
+}
+
 #[test]
 fn names(rt: HostRuntime) -> Result<(), Fail> {
-    let alloc = rt.alloc();
-    let mut registry = Registry::new(alloc);
-    assert!(rt; registry.name(0, 5).is_none());
-    for (platform, id, name, want, stands) in [
-        (0, 5, "P", true, "P"),
-        (0, 5, "Q", false, "P"),
-        (0, 5, "P", true, "P"),
-        (1, 5, "Q", true, "Q"),
-        (0, -5, "", true, ""),
-    ] {
-        let yes = registry.set_name(platform, id, text(alloc, name)?).ok();
-        assert_eq!(rt; yes, Some(want));
-        assert_eq!(rt; registry.name(platform, id).map(Text::as_str), Some(stands));
-    }
+    assert_eq!(rt; wrong_name(rt.alloc())?, None);
     Ok(())
 }
