@@ -1,12 +1,11 @@
 -- Strictly sorted lists: their parts, what they contain, and that what they contain tells them apart.
-use Rattle.std.proofs.Common.{◌≡◌, ◌≢◌, true, ℕ, zero, suc, ◌⊎◌, List, [], ◌∷◌, ◌<◌, refl, sym, ap, subst, ◌∙◌, inl, inr, arith, Contains, length}
+use Rattle.std.proofs.Common.{◌≡◌, true, zero, suc, ◌⊎◌, List, [], ◌∷◌, refl, sym, ap, subst, ◌∙◌, inl, inr, arith, Contains}
 use Rattle.std.specs.List.{AllByRecursion}
 use Rattle.std.specs.List.Sorted.{IsStrictlySortedBy}
 use Rattle.std.specs.Ordering.{ordering_reverse, is_lt}
 use Rattle.std.specs.Cmp.{IsTotalOrder}
 use Rattle.std.specs.declared.cmp.Ordering.{Ordering}
 use Rattle.std.specs.declared.cmp.Ordering.TheVariants.{Less, Equal, Greater}
-use Rattle.std.proofs.lemmas.Cmp.{tied_itself, tied_back}
 
 -- ---- membership, by the front of the list
 pub contains_nil : {X : Type 0} (z : X) → Contains [] z → ⊥

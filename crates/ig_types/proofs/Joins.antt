@@ -1,6 +1,5 @@
 -- The join of two descriptions is the least one above both, and is there exactly where they don't clash.
-use Rattle.std.proofs.Common.{◌≡◌, ◌≢◌, ℕ, ◌⊎◌, Bool, true, false, cond, List, [], ◌∷◌, Option, Some, None, IfSome, Result, Ok, Err, IfOk, IfErr, OnOk, option_map, refl, sym, ap, subst, ◌∙◌, inl, inr}
-use Rattle.std.specs.List.Sorted.{IsStrictlySortedBy}
+use Rattle.std.proofs.Common.{◌≡◌, ◌≢◌, ℕ, Bool, true, false, cond, List, [], Option, Some, None, IfSome, Result, Ok, Err, IfOk, IfErr, OnOk, refl, sym, ap, subst, ◌∙◌, inl, inr}
 use Rattle.std.specs.Option.{option_or}
 use Rattle.ig_types.specs.declared.meta.TypeMeta.{TypeMeta}
 use Rattle.ig_types.specs.declared.meta.FieldMeta.{FieldMeta}
@@ -10,11 +9,11 @@ use Rattle.ig_types.specs.declared.clash.Clash.{Clash}
 use Rattle.ig_types.specs.declared.clash.Clash.TheVariants.{Name, Affinity, EnumFlag, Field, Literal, Schema}
 use Rattle.ig_types.specs.declared.clash.JoinFault.{JoinFault}
 use Rattle.ig_types.specs.declared.clash.JoinFault.TheVariants as fault
-use Rattle.ig_types.specs.Bound.{by_field, by_literal, by_schema, IsInOrder, Below, Within, IsLeastAbove}
+use Rattle.ig_types.specs.Bound.{by_field, by_literal, by_schema, IsInOrder, Below, IsLeastAbove}
 use Rattle.ig_types.specs.Clash.{AffinitiesAgree, HeadsAgree, AgreeOnAll, IsFirstClash, IfClash}
-use Rattle.ig_types.specs.Join.{same_name, same_field, same_literal, same_schema, name_clash, affinity_clash, flag_clash, field_clash, literal_clash, schema_clash, clash_of, joined, IsOutcome}
+use Rattle.ig_types.specs.Join.{same_name, same_field, same_literal, same_schema, name_clash, affinity_clash, flag_clash, clash_of, joined, IsOutcome}
 use Rattle.ig_types.specs.Keys.{same_name_exact, same_field_exact, same_literal_exact, same_schema_exact, by_field_total, by_literal_total, by_schema_total}
-use Rattle.ig_types.specs.Parts.{Agree, DifferFirst, with_parts, first_rivals}
+use Rattle.ig_types.specs.Parts.{with_parts, first_rivals}
 use Rattle.ig_types.proofs.Members.{first_within, second_within, both_within, sorted_with_parts, agree_within, same_from_within}
 use Rattle.ig_types.proofs.Rivals.{none_both, some_either, none_under, some_under, agree_from_none, differ_from_some, agree_apart}
 

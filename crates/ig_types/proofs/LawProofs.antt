@@ -1,5 +1,5 @@
 -- The laws of joins follow from the join being the least above both.
-use Rattle.std.proofs.Common.{◌≡◌, ◌⊎◌, None, refl, sym, ap, ◌∙◌, inl, inr}
+use Rattle.std.proofs.Common.{◌≡◌, ◌⊎◌, None, sym, ◌∙◌, inl, inr}
 use Rattle.ig_types.specs.declared.meta.TypeMeta.{TypeMeta}
 use Rattle.ig_types.specs.Bound.{IsInOrder, Below}
 use Rattle.ig_types.specs.Join.{clash_of, joined}

@@ -1,16 +1,14 @@
 -- What the parts of two lists are together, and where two lists differ first.
-use Rattle.std.proofs.Common.{◌≡◌, ◌≢◌, ◌⊎◌, Bool, true, false, Decides, cond, not, ◌&&◌, List, [], ◌∷◌, Option, Some, None, Contains, find, option_map, refl, sym, ap, subst, ◌∙◌, inl, inr}
-use Rattle.std.specs.List.{AllByRecursion}
+use Rattle.std.proofs.Common.{◌≡◌, ◌⊎◌, List, [], ◌∷◌, Contains, refl, sym, subst, ◌∙◌, inl, inr}
 use Rattle.std.specs.List.Sorted.{IsStrictlySortedBy}
-use Rattle.std.specs.Option.{option_or}
-use Rattle.std.specs.Ordering.{is_eq, match_ordering}
+use Rattle.std.specs.Ordering.{match_ordering}
 use Rattle.std.specs.Cmp.{IsTotalOrder}
 use Rattle.std.specs.declared.cmp.Ordering.{Ordering}
 use Rattle.std.specs.declared.cmp.Ordering.TheVariants.{Less, Equal, Greater}
 use Rattle.std.proofs.lemmas.Cmp.{tied_itself, tied_back}
 use Rattle.ig_types.specs.Bound.{Within}
-use Rattle.ig_types.specs.Parts.{Agree, Differ, DifferFirst, with_part, with_parts, rival, first_rivals}
-use Rattle.ig_types.proofs.Ascending.{contains_nil, contains_first, contains_later, contains_cases, each_at, Before, sorted_first, sorted_later, sorted_nil, sorted_cons, before_all, more_from_less, less_from_more}
+use Rattle.ig_types.specs.Parts.{Agree, with_part, with_parts}
+use Rattle.ig_types.proofs.Ascending.{contains_nil, contains_first, contains_later, contains_cases, each_at, sorted_first, sorted_later, sorted_nil, sorted_cons, before_all, more_from_less, less_from_more}
 use Rattle.ig_types.proofs.MergeSteps.{each_with_part}
 
 module _ {X : Type 0} (rank : X → X → Ordering) where

@@ -1,5 +1,5 @@
 -- What one step of a merge leaves to do.
-use Rattle.std.proofs.Common.{◌≡◌, Bool, true, false, Decides, cond, not, ◌&&◌, List, [], ◌∷◌, Option, Some, None, find, option_map, ◌++◌, refl, sym, ap, subst, ◌∙◌, append_assoc, length}
+use Rattle.std.proofs.Common.{◌≡◌, Bool, true, false, cond, not, ◌&&◌, List, [], ◌∷◌, Some, None, option_map, ◌++◌, refl, sym, ap, subst, ◌∙◌, append_assoc, length}
 use Rattle.std.specs.List.{AllByRecursion}
 use Rattle.std.specs.List.Sorted.{IsStrictlySortedBy}
 use Rattle.std.specs.Option.{option_or}

@@ -1,5 +1,5 @@
 -- The pairs of a registry are those of its types that have one, by ascending type identifier.
-use Rattle.std.proofs.Common.{◌≡◌, ◌↔◌, ℕ, ℤ, true, false, cond, List, [], ◌∷◌, ◌++◌, Option, Some, None, Contains, filter_map, find, option_map, option_and_then, map, inl, inr, refl, sym, ap, subst, ◌∙◌, append_assoc}
+use Rattle.std.proofs.Common.{◌≡◌, ◌↔◌, ℕ, ℤ, true, false, cond, List, [], ◌∷◌, ◌++◌, Option, Some, None, Contains, filter_map, option_map, option_and_then, map, inl, inr, refl, sym, ap, subst, ◌∙◌, append_assoc}
 use Rattle.std.specs.List.{AllByRecursion, cons_option}
 use Rattle.std.specs.List.Sorted.{IsStrictlySortedBy}
 use Rattle.std.specs.BTreeMap.{is_at}
@@ -7,8 +7,7 @@ use Rattle.std.specs.Map.{lookup, keys_of, values_of}
 use Rattle.std.specs.Ordering.{nat_cmp, int_cmp, is_eq}
 use Rattle.std.specs.Cmp.Lexicographic.{slice_cmp}
 use Rattle.std.specs.Cmp.{int_cmp_total}
-use Rattle.std.specs.FinMap.{FinMap, get, entries, from_entries}
-use Rattle.std.specs.FinMap as fin
+use Rattle.std.specs.FinMap.{get, entries, from_entries}
 use Rattle.std.specs.declared.cmp.Ordering.TheVariants.{Less, Equal}
 use Rattle.std.proofs.lemmas.Cmp.{tied_itself}
 use Rattle.ig_types.specs.declared.meta.FieldMeta.{FieldMeta}
@@ -17,7 +16,7 @@ use Rattle.ig_types.specs.Bound.{IsInOrder, by_field}
 use Rattle.ig_types.specs.Join.{same_name}
 use Rattle.ig_types.specs.Keys.{same_name_exact, by_field_total}
 use Rattle.ig_types.specs.Registered.{Registered, IsKept, affinity_pair, field_named, pairs_of, by_type, IsAffinityPair}
-use Rattle.ig_types.proofs.Ascending.{Before, contains_nil, contains_first, contains_later, contains_cases, each_at, each_weaker, sorted_first, sorted_later, sorted_nil, sorted_cons}
+use Rattle.ig_types.proofs.Ascending.{Before, contains_nil, contains_first, contains_later, contains_cases, sorted_first, sorted_later, sorted_nil, sorted_cons}
 use Rattle.ig_types.proofs.Maps.{get_entries, value_found, found_value, found_later, entries_kept}
 use Rattle.ig_types.proofs.Members.{one_of_key}
 use Rattle.ig_types.proofs.Rivals.{find_none, find_some}

@@ -1,5 +1,5 @@
 -- What a put leaves in a registry.
-use Rattle.std.proofs.Common.{◌≡◌, ◌≢◌, ◌⊎◌, ℤ, Bool, true, false, cond, List, [], ◌∷◌, ◌++◌, Option, Some, None, MatchOption, option_and_then, IfSome, Bor, option_copied, ℕ, Contains, refl, sym, ap, subst, ◌∙◌, inl, inr}
+use Rattle.std.proofs.Common.{◌≡◌, ◌≢◌, ℤ, true, false, cond, List, [], ◌∷◌, ◌++◌, Option, Some, None, MatchOption, option_and_then, IfSome, Bor, option_copied, ℕ, Contains, refl, sym, ap, subst, ◌∙◌, inl, inr}
 use Rattle.std.specs.Ordering.{nat_cmp, int_cmp, is_eq, eq_by_cmp}
 use Rattle.std.specs.Cmp.{IsTotalOrder, nat_cmp_total, int_cmp_total}
 use Rattle.std.specs.declared.cmp.Ordering.{Ordering}

@@ -1,5 +1,5 @@
 -- What one step of a comparison of two lists leaves to do.
-use Rattle.std.proofs.Common.{◌≡◌, ◌↔◌, true, false, Bool, Decides, List, [], ◌∷◌, Contains, IsTrue, inl, inr, refl, sym, ap, subst, ◌∙◌}
+use Rattle.std.proofs.Common.{◌≡◌, ◌↔◌, false, List, [], ◌∷◌, Contains, IsTrue, inl, inr, sym, subst, ◌∙◌}
 use Rattle.std.specs.List.Sorted.{IsStrictlySortedBy}
 use Rattle.std.specs.Cmp.{IsTotalOrder}
 use Rattle.std.specs.declared.cmp.Ordering.{Ordering}

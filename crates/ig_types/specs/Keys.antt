@@ -1,8 +1,6 @@
 -- The keys of fields, literals and schemas are in order, and their tests tell equal from unequal.
-use Rattle.std.specs.Prelude.{◌≡◌, Decides, true, ◌&&◌, Bool, nat_eq, List, ℕ, refl}
+use Rattle.std.specs.Prelude.{◌≡◌, Decides, Bool, List, ℕ, refl}
 use Rattle.std.specs.Cmp.{IsTotalOrder, int_cmp_total}
-use Rattle.std.specs.Ordering.{nat_cmp, int_eq}
-use Rattle.std.specs.Cmp.Lexicographic.{pointwise}
 use Rattle.std.proofs.Common.{ap}
 use Rattle.std.proofs.lemmas.Bool.Decides.{Decides-eqb, Decides-int_eq, Decides-and}
 use Rattle.std.proofs.lemmas.Slice.Eq.{slice_eq-Decides}

@@ -1,5 +1,5 @@
 -- Lists of parts, each part under a key. `rank` compares two parts by their keys alone, and `same` tells whether two parts are one.
-use Rattle.std.specs.Prelude.{◌≡◌, ◌≢◌, Bool, not, ◌&&◌, Option, Some, None, List, [], ◌∷◌, Contains, find, option_map}
+use Rattle.std.specs.Prelude.{◌≡◌, ◌≢◌, Bool, not, ◌&&◌, Option, None, List, [], ◌∷◌, Contains, find, option_map}
 use Rattle.std.specs.Option.{option_or}
 use Rattle.std.specs.Ordering.{is_eq, match_ordering}
 use Rattle.std.specs.declared.cmp.Ordering.{Ordering}

@@ -268,8 +268,8 @@ static PUTS: [(i32, &str, &str, &str); 7] = [
 /// The first row that leaves something else.
 fn wrong_put(alloc: Global, registry: &mut Registry) -> Result<Option<&'static str>, AllocError> {
     for &(id, row, word, stands) in &PUTS {
-        let want = Some(described(alloc, id, stands)?);
-        if put(alloc, registry, id, row)? != format!(in alloc; "{word}{want:?}")? {
+        let stands = Some(described(alloc, id, stands)?);
+        if put(alloc, registry, id, row)? != format!(in alloc; "{word}{stands:?}")? {
             return Ok(Some(row));
         }
     }

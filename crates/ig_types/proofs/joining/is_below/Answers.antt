@@ -1,5 +1,5 @@
 use Rattle.std.proofs.Common.{◌≡◌, rules, false, Some, IfSome, IsTrue}
-use Rattle.ig_types.specs.Bound.{Below, Within}
+use Rattle.ig_types.specs.Bound.{Within}
 use Rattle.ig_types.proofs.WithinSteps.{refused}
 use Rattle.ig_types.proofs.joining.is_below.Goals as goal
 

@@ -1,4 +1,4 @@
-use Rattle.std.proofs.Common.{◌+◌, length}
+use Rattle.std.proofs.Common.{length}
 use Rattle.ig_types.proofs.WithinSteps.{IsAlike}
 use Rattle.ig_types.proofs.merging.is_within.Given as goal
 

@@ -1,6 +1,5 @@
-use Rattle.std.proofs.Common.{◌≡◌, ℕ, ℤ, w32, ap, option_copied}
+use Rattle.std.proofs.Common.{w32, ap, option_copied}
 use Rattle.std.proofs.lemmas.Int.{to_z-of_z}
-use Rattle.std.proofs.lemmas.Cmp.{on_total, then_total}
 use Rattle.ig_types.specs.Registered.{by_place}
 use Rattle.ig_types.proofs.Maps.{got}
 use Rattle.ig_types.proofs.Registers.{by_place_total}

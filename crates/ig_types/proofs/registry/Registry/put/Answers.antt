@@ -1,5 +1,4 @@
 use Rattle.std.proofs.Common.{rules, w32, to_z, of_z, ◌≡◌, ◌++◌, ◌∷◌, [], Some, List, ℤ, refl, sym, ap, subst, ◌∙◌}
-use Rattle.std.proofs.lemmas.Int.{to_z-of_z}
 use Rattle.std.specs.FinMap as map
 use Rattle.std.specs.FinMap.{from_entries}
 use Rattle.ig_types.specs.declared.meta.TypeMeta.{TypeMeta}
