@@ -1,0 +1,11 @@
+pub mod Ascending
+pub mod Joins
+pub mod LawProofs
+pub mod Maps
+pub mod Members
+pub mod MergeSteps
+pub mod Pairs
+pub mod Registers
+pub mod Rivals
+pub mod Search
+pub mod WithinSteps

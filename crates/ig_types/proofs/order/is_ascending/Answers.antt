@@ -1,0 +1,24 @@
+use Rattle.std.proofs.Common.{◌≡◌, true, refl, sym, ap, subst, ◌∙◌}
+use Rattle.std.proofs.lemmas.List.{nil_from_length}
+use Rattle.std.specs.List.Sorted.{IsStrictlySortedBy}
+use Rattle.std.specs.Ordering.{is_lt}
+use Rattle.ig_types.proofs.Ascending.{sorted_nil, ascends_on, ascends_end, ascends_not, less_from_test}
+use Rattle.ig_types.proofs.WithinSteps.{refused}
+use Rattle.ig_types.proofs.order.is_ascending.Goals as goal
+
+pub returns-in_default : goal.returns-in_default
+returns-in_default g c =
+    (λ _. subst (IsStrictlySortedBy g.P.Part.rank) (sym (nil_from_length c.args.parts.now c.in_default.ensures.cases)) (sorted_nil g.P.Part.rank), λ _. refl)
+
+pub returns-then-not-is_lt : goal.returns-then-not-is_lt
+returns-then-not-is_lt g c =
+    refused (ascends_not _ g.met.P.Part.ranked _ _ _ _ _ c.loop-next.invariant c.in-Some-split_first.ensures.cases.0
+    (λ less. let yes : is_lt c.compare.result ≡ true = ap is_lt (c.compare.ensures ∙ less) in cc))
+
+pub loop-next-preserved : goal.loop-next-preserved
+loop-next-preserved g c =
+    ascends_on _ g.met.P.Part.ranked _ _ _ _ _ c.loop-next.invariant c.in-Some-split_first.ensures.cases.0
+    (sym c.compare.ensures ∙ less_from_test c.compare.result c.if-not-is_lt.ensures)
+
+pub returns : goal.returns
+returns g c = (λ _. ascends_end _ g.met.P.Part.ranked _ _ _ c.loop-next.invariant (nil_from_length _ c.in_default-split_first.ensures.cases), λ _. refl)
