@@ -8,6 +8,7 @@ ghost use Rattle.ig_turn.specs.Rule.{Each};
 ghost use Rattle.ig_turn.specs.Steps.{opening_view, split_right, settled_view, glued, informed, note_of, IsAtRest, staged, committed_view, held_ticket, held_list, IsHolding, IsWholeView, IsLegalView, Carries, AddsView};
 
 use crate::bell::Bell;
+use crate::patience::Patience;
 use crate::plain::Plain;
 use crate::rule::{
     Commit, Cut, DrawNumber, DrawTicket, Glue, InTurn, Inform, Made, Note, Pass, Settle, TakeObject,
@@ -19,7 +20,7 @@ use std::alloc::{AllocFailed, Global};
 use std::marker::Brand;
 use std::snapshot::Snapshot;
 use std::sync::Wait;
-use std::{hint, thread};
+use std::thread;
 
 /// The next ticket.
 pub(crate) const TICKET: usize = 0;
@@ -35,9 +36,6 @@ pub(crate) const SEATS: usize = 3;
 
 /// No ticket and no number is drawn from here on.
 pub(crate) const MOST: u64 = 1 << 62;
-
-// How often a call looks before it sleeps.
-const LOOKS: u32 = 100;
 
 const OBJECT: usize = 0;
 
@@ -99,6 +97,7 @@ impl<O: Plain> Desk<O> {
         ensures id { (place.new.table_id ≡ place.old.table_id) × (place.new.id ≡ place.old.id) }
         ensures drawn { place.new.me ≡ (staged place.old.me.0 (Waiting result), place.old.me.1) }
     {
+        let mut patience = Patience::new();
         let mut slept = false;
         for _ in rt.forever() {
             if let Some(ticket) = self.free_ticket() {
@@ -112,7 +111,8 @@ impl<O: Plain> Desk<O> {
                     }
                     return ticket;
                 }
-            } else if self.wait(rt) {
+            }
+            if self.wait(rt, &mut patience) {
                 slept = true;
             }
         }
@@ -132,23 +132,19 @@ impl<O: Plain> Desk<O> {
         }
     }
 
-    // Looks a while whether the turn is free, unless others sleep already, and then sleeps until it is passed.
+    // Pauses before the next look, or sleeps until the turn is passed where the patience has ended or others sleep already.
     // True where it slept.
-    fn wait<R: Wait>(&self, rt: &R) -> bool {
-        for _ in 0..LOOKS {
-            if self.free_ticket().is_some() {
-                return false;
-            }
-            if self.bell.is_asked() {
-                break;
-            }
-            hint::spin_loop();
+    fn wait<R: Wait>(&self, rt: &R, patience: &mut Patience) -> bool {
+        if patience.lasts() && !self.bell.is_asked() {
+            patience.pause();
+            return false;
         }
         let mark = self.bell.ask();
         if self.free_ticket().is_some() {
             return false;
         }
         self.bell.sleep(rt, mark);
+        *patience = Patience::new();
         true
     }
 

@@ -15,6 +15,7 @@
 
 mod bell;
 mod desk;
+mod patience;
 mod plain;
 mod rule;
 mod seat;
