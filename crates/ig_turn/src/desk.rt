@@ -7,8 +7,8 @@ ghost use Rattle.ig_turn.specs.History.{pairs_of, under, IsLonger};
 ghost use Rattle.ig_turn.specs.Rule.{Each};
 ghost use Rattle.ig_turn.specs.Steps.{opening_view, split_right, settled_view, glued, informed, note_of, IsAtRest, staged, committed_view, held_ticket, held_list, IsHolding, IsWholeView, IsLegalView, Carries, AddsView};
 
+use crate::backoff::Backoff;
 use crate::bell::Bell;
-use crate::patience::Patience;
 use crate::plain::Plain;
 use crate::rule::{
     Commit, Cut, DrawNumber, DrawTicket, Glue, InTurn, Inform, Made, Note, Pass, Settle, TakeObject,
@@ -90,14 +90,14 @@ impl<O: Plain> Desk<O> {
         }
     }
 
-    // Draws a ticket where nobody has the turn, and else waits. Where no ticket is left it waits for ever.
+    // Draws a ticket once nobody has the turn. A draw that another call came before counts as a look. Where no ticket is left it waits for ever.
     fn draw<R: Wait>(&self, rt: &R, place: &mut Place<O>) -> u64
         requires id { place.old.table_id ≡ self.now.table.shared.table_id }
         requires idle { place.old.me.0.stage ≡ Idle }
         ensures id { (place.new.table_id ≡ place.old.table_id) × (place.new.id ≡ place.old.id) }
         ensures drawn { place.new.me ≡ (staged place.old.me.0 (Waiting result), place.old.me.1) }
     {
-        let mut patience = Patience::new();
+        let mut backoff = Backoff::new();
         let mut slept = false;
         for _ in rt.forever() {
             if let Some(ticket) = self.free_ticket() {
@@ -112,7 +112,7 @@ impl<O: Plain> Desk<O> {
                     return ticket;
                 }
             }
-            if self.wait(rt, &mut patience) {
+            if self.wait(rt, &mut backoff) {
                 slept = true;
             }
         }
@@ -132,11 +132,11 @@ impl<O: Plain> Desk<O> {
         }
     }
 
-    // Pauses before the next look, or sleeps until the turn is passed where the patience has ended or others sleep already.
-    // True where it slept.
-    fn wait<R: Wait>(&self, rt: &R, patience: &mut Patience) -> bool {
-        if patience.lasts() && !self.bell.is_asked() {
-            patience.pause();
+    // Pauses before the next look. Where the pauses became too long, or others sleep already, it sleeps until the turn is
+    // passed, unless it is free by then. True where it slept.
+    fn wait<R: Wait>(&self, rt: &R, backoff: &mut Backoff) -> bool {
+        if !backoff.is_completed() && !self.bell.is_asked() {
+            backoff.spin();
             return false;
         }
         let mark = self.bell.ask();
@@ -144,7 +144,7 @@ impl<O: Plain> Desk<O> {
             return false;
         }
         self.bell.sleep(rt, mark);
-        *patience = Patience::new();
+        *backoff = Backoff::new();
         true
     }
 

@@ -13,9 +13,9 @@
 //! other nothing do.
 #![tactic(auto)]
 
+mod backoff;
 mod bell;
 mod desk;
-mod patience;
 mod plain;
 mod rule;
 mod seat;
