@@ -90,7 +90,7 @@ impl<O: Plain> Desk<O> {
         }
     }
 
-    // Draws a ticket once nobody has the turn. A draw that another call came before counts as a look. Where no ticket is left it waits for ever.
+    // Draws a ticket where nobody has the turn, and else waits. Where no ticket is left it waits for ever.
     fn draw<R: Wait>(&self, rt: &R, place: &mut Place<O>) -> u64
         requires id { place.old.table_id ≡ self.now.table.shared.table_id }
         requires idle { place.old.me.0.stage ≡ Idle }
