@@ -62,6 +62,6 @@ first_claimed {S} after longer h width wide s into xs front back at n t now u le
     let len : length front ≡ n = ap length f ∙ length-take-le n xs le in
     let fits : length bytes ≡ n * width = length-flat_wide h width wide front ∙ ap (λ (m : ℕ). m * width) len in
     let all : flat_map h xs ≡ bytes ++ flat_map h back =
-        ap (flat_map h) (sym (take-append-drop n xs)) ∙ flat_map-append h (take n xs) (drop n xs) ∙ ap (λ (l : List _). flat_map h l ++ flat_map h (drop n xs)) (sym f) ∙ ap (λ (l : List _). bytes ++ flat_map h l) (sym is) in
+    ap (flat_map h) (sym (take-append-drop n xs)) ∙ flat_map-append h (take n xs) (drop n xs) ∙ ap (λ (l : List _). flat_map h l ++ flat_map h (drop n xs)) (sym f) ∙ ap (λ (l : List _). bytes ++ flat_map h l) (sym is) in
     let beside : List ℕ → S × List ℕ = λ l. (t, l) in
     two after longer s into bytes (flat_map h back) (beside now) u (ap beside w ∙ sym (a bytes fits)) b ∙ ap (after s into) (sym all)

@@ -170,6 +170,61 @@ fn others(alloc: Global, examples: &mut Vec<Example>) -> Result<(), Fail> {
     Ok(())
 }
 
+/// No items.
+fn none<T: Drop>(alloc: Global) -> Items<T> {
+    Items::new(Vec::new(alloc))
+}
+
+/// What is shortest of each code whose content has a count.
+fn shortest(alloc: Global, examples: &mut Vec<Example>) -> Result<(), Fail> {
+    examples.push((Value::Str(Text::new(String::new(alloc))), &[9, 0, 0, 0, 0]))?;
+    examples.push((Value::Bytes(none(alloc)), &[12, 0, 0, 0, 0]))?;
+    examples.push((Value::Shorts(none(alloc)), &[13, 0, 0, 0, 0]))?;
+    examples.push((Value::Ints(none(alloc)), &[14, 0, 0, 0, 0]))?;
+    examples.push((Value::Longs(none(alloc)), &[15, 0, 0, 0, 0]))?;
+    examples.push((Value::Floats(none(alloc)), &[16, 0, 0, 0, 0]))?;
+    examples.push((Value::Doubles(none(alloc)), &[17, 0, 0, 0, 0]))?;
+    examples.push((Value::Chars(none(alloc)), &[18, 0, 0, 0, 0]))?;
+    examples.push((Value::Bools(none(alloc)), &[19, 0, 0, 0, 0]))?;
+    examples.push((Value::Strs(none(alloc)), &[20, 0, 0, 0, 0]))?;
+    examples.push((Value::Uuids(none(alloc)), &[21, 0, 0, 0, 0]))?;
+    examples.push((Value::Dates(none(alloc)), &[22, 0, 0, 0, 0]))?;
+    examples.push((Value::Decimals(none(alloc)), &[31, 0, 0, 0, 0]))?;
+    examples.push((Value::Timestamps(none(alloc)), &[34, 0, 0, 0, 0]))?;
+    examples.push((Value::Times(none(alloc)), &[37, 0, 0, 0, 0]))?;
+    Ok(())
+}
+
+/// The same where more than a count stands before the items.
+fn shortest_with_more(alloc: Global, examples: &mut Vec<Example>) -> Result<(), Fail> {
+    let items = none(alloc);
+    let type_id = 1;
+    examples.push((
+        Value::Objects { type_id, items },
+        &[23, 1, 0, 0, 0, 0, 0, 0, 0],
+    ))?;
+    let items = none(alloc);
+    examples.push((
+        Value::Enums { type_id, items },
+        &[29, 1, 0, 0, 0, 0, 0, 0, 0],
+    ))?;
+    let items = none(alloc);
+    examples.push((Value::Collection { kind: 5, items }, &[24, 0, 0, 0, 0, 5]))?;
+    let pairs = none(alloc);
+    examples.push((Value::Map { kind: 1, pairs }, &[25, 0, 0, 0, 0, 1]))?;
+    let bytes = Octets::empty(alloc);
+    examples.push((
+        Value::Wrapped { bytes, offset: 2 },
+        &[27, 0, 0, 0, 0, 2, 0, 0, 0],
+    ))?;
+    let bytes = Octets::empty(alloc);
+    examples.push((
+        Value::Decimal(Dec { scale: 3, bytes }),
+        &[30, 3, 0, 0, 0, 0, 0, 0, 0],
+    ))?;
+    Ok(())
+}
+
 /// Each row of the table, both ways.
 #[test]
 fn every_row(rt: HostRuntime) -> Result<(), Fail> {
@@ -177,6 +232,8 @@ fn every_row(rt: HostRuntime) -> Result<(), Fail> {
     scalars(rt.alloc(), &mut examples)?;
     arrays(rt.alloc(), &mut examples)?;
     others(rt.alloc(), &mut examples)?;
+    shortest(rt.alloc(), &mut examples)?;
+    shortest_with_more(rt.alloc(), &mut examples)?;
     for (value, bytes) in &examples {
         assert_eq!(rt; canonical_len(value), bytes.len() as u128, "of {bytes:?}");
         let mut written = Octets::empty(rt.alloc());

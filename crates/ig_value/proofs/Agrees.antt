@@ -1,13 +1,12 @@
 -- A reader and the two relations that say what it reads: how each way of putting parts together keeps their agreement.
-use Rattle.std.proofs.Common.{◌≡◌, ℕ, zero, suc, ◌+◌, ◌<◌, ◌≤◌, Bool, true, false, cond, ltb, List, [], ◌∷◌, ◌++◌, length, get_or, take, drop, Option, Some, None, Result, Ok, Err, refl, sym, ap, subst, ◌∙◌, append_assoc, arith, inl, inr, length-append, ◌⊎◌}
-use Rattle.std.proofs.lemmas.Bool.{cases_lt, ltb-false, ltb-true, le-ltb, lt-ltb}
-use Rattle.std.proofs.lemmas.List.{take_at, drop_at, take-append-drop, length-take, length-drop, get_or-drop, get_or-take, get_or_past}
+use Rattle.std.proofs.Common.{◌≡◌, ℕ, zero, suc, ◌+◌, List, [], ◌∷◌, ◌++◌, length, take, drop, Result, Ok, Err, refl, sym, ap, subst, ◌∙◌, append_assoc, arith, inl, inr, length-append, ◌⊎◌}
+use Rattle.std.proofs.lemmas.Bool.{cases_lt}
+use Rattle.std.proofs.lemmas.List.{drop_at, length-take, get_or-drop, get_or-take, get_or_past}
 use Rattle.ig_base.specs.Numbers.{AreBytes}
 use Rattle.ig_value.specs.declared.cause.Cause.{Cause}
-use Rattle.ig_value.specs.declared.cause.Cause.TheVariants as cause
-use Rattle.ig_value.specs.Spells.{IsBoth, IsEach, IsMany, IsCoded, IsOptional}
-use Rattle.ig_value.specs.Stops.{IsCut, StopsBoth, StopsBehind, StopsMany, StopsCoded, StopsOptional, IsOtherCode}
-use Rattle.ig_value.specs.Reading.{Fault, Read, ◌>>=◌, seen, nothing_at, found, item_at, both_at, many_at, optional_at}
+use Rattle.ig_value.specs.Spells.{IsBoth, IsMany}
+use Rattle.ig_value.specs.Stops.{StopsBoth, StopsMany}
+use Rattle.ig_value.specs.Reading.{Fault, Read, ◌>>=◌, seen, nothing_at, both_at, many_at}
 
 -- ---- tools
 

@@ -1,17 +1,16 @@
 -- What stands behind an Int32 count, and bytes and texts there.
-use Rattle.std.proofs.Common.{◌≡◌, ℕ, zero, suc, ◌+◌, ◌<◌, ◌≤◌, ◌^◌, ℤ, pos, negsuc, Bool, true, false, List, [], ◌∷◌, ◌++◌, length, take, drop, Result, Ok, Err, refl, sym, ap, subst, ◌∙◌, append_assoc, arith, inl, inr, length-append, ◌⊎◌}
+use Rattle.std.proofs.Common.{◌≡◌, ℕ, ◌+◌, ◌<◌, ◌^◌, ℤ, pos, negsuc, Bool, true, false, List, ◌++◌, length, take, Ok, Err, refl, sym, ap, subst, ◌∙◌, append_assoc, arith, inl, inr, length-append, ◌⊎◌}
 use Rattle.std.specs.Prelude.{FitsSigned}
-use Rattle.std.specs.Int.{w32, cast_signed, from_le_bytes}
+use Rattle.std.specs.Int.{w32}
 use Rattle.std.specs.Str.{IsUtf8, is_utf8}
 use Rattle.std.proofs.lemmas.Str.{IsUtf8-from_is_utf8, is_utf8-from_IsUtf8}
-use Rattle.std.proofs.lemmas.List.{take_at, drop_at, take-append-drop, length-take}
 use Rattle.ig_base.specs.Numbers.{AreBytes, LE}
 use Rattle.ig_value.specs.declared.cause.Cause.{Cause}
 use Rattle.ig_value.specs.declared.cause.Cause.TheVariants as cause
 use Rattle.ig_value.specs.Part.{i32}
 use Rattle.ig_value.specs.Spells.{IsScalar, IsCounted, IsRun, IsTextRun}
-use Rattle.ig_value.specs.Stops.{IsCut, IsNegative, StopsCounted, StopsCounting, StopsRun, StopsTextRun, IsNoText}
-use Rattle.ig_value.specs.Reading.{Fault, Read, ◌>>=◌, scalar_at, item_at, count_at, count_of, counted_at, run_of, text_of, run_at, text_run_at}
+use Rattle.ig_value.specs.Stops.{IsCut, IsNegative, StopsCounted, StopsRun, StopsTextRun}
+use Rattle.ig_value.specs.Reading.{Fault, Read, ◌>>=◌, scalar_at, count_at, count_of, counted_at, run_of, text_of, run_at, text_run_at}
 use Rattle.ig_value.proofs.Agrees.{Agrees, Takes, Halts, Halted, AreBytes-back, bind_ok, bind_err, ok_is, err_is}
 use Rattle.ig_value.proofs.Items.{IsItem, item_agrees}
 use Rattle.ig_value.proofs.Scalars.{scalar_agrees}

@@ -1,7 +1,6 @@
 -- The greatest of the numbers that a list's items have, and the depths of the variants that hold values.
-use Rattle.std.proofs.Common.{◌≡◌, ℕ, zero, suc, ◌+◌, ◌*◌, ◌<◌, ◌≤◌, max, List, [], ◌∷◌, ◌++◌, map, length, take, get_or, refl, sym, ap, ◌∙◌, arith}
+use Rattle.std.proofs.Common.{◌≡◌, ℕ, zero, suc, ◌<◌, ◌≤◌, max, List, [], ◌∷◌, map, length, take, get_or, refl, sym, ap, ◌∙◌, arith}
 use Rattle.std.specs.List.{flat_map}
-use Rattle.std.proofs.Math.Seq.{take-suc}
 use Rattle.ig_value.specs.declared.value.Value.{Value, out-Value, roll-Value, roll-out-Value}
 use Rattle.ig_value.specs.declared.value.Value.TheVariants as value
 use Rattle.ig_value.specs.declared.value.Value.TheOpen.{Value-F}

@@ -1,16 +1,15 @@
 -- The folds over a value, as equations over one level of it.
-use Rattle.std.proofs.Common.{◌≡◌, ℕ, suc, ◌+◌, max, ℤ, pos, length, List, [], ◌∷◌, ◌++◌, map, refl, sym, ap, ◌∙◌, append_assoc, arith}
+use Rattle.std.proofs.Common.{◌≡◌, ℕ, suc, ◌+◌, pos, length, List, [], ◌∷◌, ◌++◌, map, refl, sym, ap, ◌∙◌}
 use Rattle.std.specs.List.{flat_map, sum_by}
 use Rattle.std.proofs.lemmas.List.{length-map}
 use Rattle.std.proofs.lemmas.List.Sums.{sum_by-cons}
 use Rattle.ig_value.specs.declared.value.Value.{Value, out-Value}
 use Rattle.ig_value.specs.declared.value.Value.TheOpen.{Value-F}
-use Rattle.ig_value.specs.declared.value.Value.TheFolds.{map-Value, fold-Value, fold_out-Value}
+use Rattle.ig_value.specs.declared.value.Value.TheFolds.{map-Value, fold_out-Value}
 use Rattle.std.specs.Int.{w8, w32}
 use Rattle.ig_base.specs.Numbers.{LE}
-use Rattle.ig_value.specs.Part.{Content}
 use Rattle.ig_value.specs.Table.{content, parts}
-use Rattle.ig_value.specs.Canon.{part_bytes, layer_bytes, Canon}
+use Rattle.ig_value.specs.Canon.{layer_bytes, Canon}
 use Rattle.ig_value.specs.Limits.{greatest, inside, Depth, part_nodes, Nodes}
 
 flat_map_mapped : {X : Type 0} (h : X → List ℕ) (xs : List X) → flat_map (λ b. b) (map h xs) ≡ flat_map h xs

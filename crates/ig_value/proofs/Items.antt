@@ -1,17 +1,17 @@
 -- Items of a fixed number of bytes, and what stands behind a code byte or a count.
-use Rattle.std.proofs.Common.{◌≡◌, ℕ, zero, suc, ◌+◌, ◌<◌, ◌≤◌, ◌^◌, ℤ, pos, negsuc, Bool, true, false, cond, ltb, eqb, List, [], ◌∷◌, ◌++◌, length, get_or, take, drop, Option, Some, None, Result, Ok, Err, refl, sym, ap, subst, ◌∙◌, append_assoc, arith, inl, inr, length-append, ◌⊎◌}
+use Rattle.std.proofs.Common.{◌≡◌, ℕ, suc, ◌+◌, ◌<◌, ◌≤◌, List, [], ◌∷◌, ◌++◌, length, take, drop, Option, Some, None, Result, Ok, Err, refl, sym, ap, subst, ◌∙◌, arith, inl, inr, length-append, ◌⊎◌}
 use Rattle.std.proofs.Common.{◌≢◌, eq-eqb}
-use Rattle.std.proofs.lemmas.Bool.{cases_lt, cases_eq, ne_eqb, le-ltb, lt-ltb, eqb-true, eqb-false, false_from_ne_true}
-use Rattle.std.proofs.lemmas.List.{take_at, drop_at, take-append-drop, length-take, length-drop, nil_from_length}
+use Rattle.std.proofs.lemmas.Bool.{cases_lt, cases_eq, ne_eqb, le-ltb, lt-ltb}
+use Rattle.std.proofs.lemmas.List.{take_at, drop_at, take-append-drop, length-take, nil_from_length}
 use Rattle.ig_base.specs.Numbers.{AreBytes}
 use Rattle.ig_value.specs.declared.cause.Cause.{Cause}
 use Rattle.ig_value.specs.declared.cause.Cause.TheVariants as cause
 use Rattle.ig_value.specs.declared.code.Code.{Code}
 use Rattle.ig_value.specs.declared.code.Code.TheVariants as code
 use Rattle.ig_value.specs.Table.{byte_of}
-use Rattle.ig_value.specs.Spells.{IsCoded, IsOptional, IsCounted}
-use Rattle.ig_value.specs.Stops.{IsCut, IsOtherCode, StopsCoded, StopsOptional, StopsCounted, StopsCounting, IsNegative}
-use Rattle.ig_value.specs.Reading.{Fault, Read, ◌>>=◌, seen, found, item_at, optional_at, counted_at, count_at, count_of}
+use Rattle.ig_value.specs.Spells.{IsCoded, IsOptional}
+use Rattle.ig_value.specs.Stops.{StopsCoded, StopsOptional}
+use Rattle.ig_value.specs.Reading.{Fault, Read, seen, found, item_at, optional_at}
 use Rattle.ig_value.proofs.Agrees.{Agrees, Takes, Halts, Halted, AreBytes-take, AreBytes-drop, bind_ok, bind_err, ok_is, err_is}
 
 found_ok : {A : Type 0} (left : ℕ) (rest : List ℕ) (r : Result A Cause) (x : A) (rest' : List ℕ) → found left rest r ≡ Ok (x, rest') → (r ≡ Ok x) × (rest ≡ rest')

@@ -1,13 +1,12 @@
 -- Every part is read as it is spelled, where a value inside is.
-use Rattle.std.proofs.Common.{◌≡◌, ◌≢◌, ℕ, Bool, true, false, List, [], ◌∷◌, eqb, not, ◌&&◌, Option, refl, sym, ap, ◌∙◌, arith}
-use Rattle.std.proofs.lemmas.Bool.{eqb-true, eqb-false}
+use Rattle.std.proofs.Common.{◌≢◌, ℕ, List, refl, arith}
 use Rattle.ig_base.specs.declared.NodeId.{NodeId}
 use Rattle.ig_value.specs.declared.cause.Cause.{Cause}
 use Rattle.ig_value.specs.declared.code.Code.{Code}
 use Rattle.ig_value.specs.declared.code.Code.TheVariants as code
 use Rattle.ig_value.specs.declared.value.Dec.{Dec}
 use Rattle.ig_value.specs.declared.value.Stamp.{Stamp}
-use Rattle.ig_value.specs.Part.{i32, i64, u64, Part, nothing, scalar, text, octets, uuid, stamp, decimal, value, both, counted, optional, Content}
+use Rattle.ig_value.specs.Part.{i32, i64, u64, Part, nothing, scalar, text, octets, uuid, stamp, decimal, value, both, counted, optional}
 use Rattle.ig_value.specs.Table.{byte_of, content}
 use Rattle.ig_value.specs.Spells.{IsScalar, IsBoth, IsMany, IsRun, IsTextRun, IsCounted, SpellsPart}
 use Rattle.ig_value.specs.Stops.{StopsScalar, StopsBoth, StopsMany, StopsRun, StopsTextRun, StopsCounted, StopsPart}

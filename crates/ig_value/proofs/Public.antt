@@ -1,19 +1,18 @@
 -- The laws as they are stated for callers, at the 32 levels that a value may have.
-use Rattle.std.proofs.Common.{◌≡◌, ℕ, zero, suc, ◌+◌, ◌≤◌, List, [], ◌∷◌, ◌++◌, length, map, Result, Ok, Err, refl, sym, ap, subst, ◌∙◌, arith, inl, inr, ◌⊎◌}
+use Rattle.std.proofs.Common.{◌≡◌, ℕ, zero, suc, ◌≤◌, List, [], ◌∷◌, ◌++◌, length, map, Ok, Err, refl, sym, ap, ◌∙◌, arith, inl, inr, ◌⊎◌}
 use Rattle.std.specs.List.{flat_map, AllByRecursion}
 use Rattle.std.proofs.lemmas.List.{append_cancel_right}
 use Rattle.ig_base.specs.Numbers.{AreBytes}
-use Rattle.ig_value.specs.declared.cause.Cause.{Cause}
 use Rattle.ig_value.specs.declared.value.Value.{Value, out-Value}
 use Rattle.ig_value.specs.declared.value.Value.TheOpen.{Value-F}
 use Rattle.ig_value.specs.Table.{content, parts}
-use Rattle.ig_value.specs.Spells.{Spells, SpellsTo}
-use Rattle.ig_value.specs.Stops.{Stops, StopsTo}
+use Rattle.ig_value.specs.Spells.{Spells}
+use Rattle.ig_value.specs.Stops.{Stops}
 use Rattle.ig_value.specs.Canon.{Canon}
-use Rattle.ig_value.specs.Limits.{Fits, FitsTo, FitsPart, Depth, Nodes, inside, greatest}
+use Rattle.ig_value.specs.Limits.{Fits, FitsTo, FitsPart, Depth, inside, greatest}
 use Rattle.ig_value.specs.Reading.{Fault, Read, value_at}
 use Rattle.ig_value.specs.Laws.{BeginsWithValue, HasStop, EveryInputIsDecided, OneFrontSpells, OneStop, NoStopBehindValue, SpelledFits, CanonSpells, CanonIsShortest, CanonTellsApart, ByteForEachNode, FitsIsShallow, FitsAtItsDepth}
-use Rattle.ig_value.proofs.Agrees.{Agrees, ok_is, err_is}
+use Rattle.ig_value.proofs.Agrees.{ok_is, err_is}
 use Rattle.ig_value.proofs.Values.{value_agrees}
 use Rattle.ig_value.proofs.Folds.{Depth_out}
 use Rattle.ig_value.proofs.Spelled.{spelled_canonical, spelled_fits, fits_spelled, spelled_nodes, fits_depth}

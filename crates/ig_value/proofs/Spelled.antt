@@ -1,19 +1,17 @@
 -- What follows of a spelling: the value keeps to the limits, the spelling is the canonical one, and it has a byte for each
 -- node. And what keeps to the limits has a spelling.
-use Rattle.std.proofs.Common.{◌≡◌, ℕ, zero, suc, ◌+◌, ◌<◌, ◌≤◌, ◌^◌, ℤ, pos, Bool, true, false, max, List, [], ◌∷◌, ◌++◌, map, length, Option, Some, None, refl, sym, ap, subst, ◌∙◌, append_assoc, arith, length-append}
-use Rattle.std.specs.Int.{w8, w16, w32, w64}
-use Rattle.std.specs.Str.{IsUtf8}
+use Rattle.std.proofs.Common.{◌≡◌, ℕ, zero, suc, ◌<◌, ◌≤◌, ◌^◌, pos, true, false, List, [], ◌∷◌, ◌++◌, map, length, Some, None, refl, sym, ap, subst, ◌∙◌, arith, length-append}
+use Rattle.std.specs.Int.{w32}
 use Rattle.std.specs.List.{flat_map, sum_by, AllByRecursion}
 use Rattle.std.proofs.lemmas.List.Sums.{sum_by-cons}
-use Rattle.ig_base.specs.Numbers.{LE, AreBytes}
-use Rattle.ig_value.specs.declared.code.Code.{Code}
+use Rattle.ig_base.specs.Numbers.{LE}
 use Rattle.ig_value.specs.declared.value.Value.{Value, out-Value}
 use Rattle.ig_value.specs.declared.value.Value.TheOpen.{Value-F}
 use Rattle.ig_value.specs.Part.{Scalar, i8, i16, i32, i64, u16, u32, u64, truth, ScalarValue, Part, nothing, scalar, text, octets, uuid, stamp, decimal, value, both, counted, optional, Content}
 use Rattle.ig_value.specs.Table.{byte_of, content, parts}
-use Rattle.ig_value.specs.Spells.{scalar_bytes, IsInRange, IsScalar, IsRun, IsTextRun, IsBoth, IsCounted, IsEach, IsMany, IsCoded, IsOptional, SpellsPart, SpellsTo}
-use Rattle.ig_value.specs.Canon.{counted_bytes, optional_bytes, part_bytes, layer_bytes, Canon}
-use Rattle.ig_value.specs.Limits.{AreCountable, IfThere, FitsPart, FitsTo, greatest, inside, Depth, part_nodes, Nodes}
+use Rattle.ig_value.specs.Spells.{scalar_bytes, IsScalar, IsRun, IsBoth, IsCounted, IsEach, IsMany, SpellsPart, SpellsTo}
+use Rattle.ig_value.specs.Canon.{counted_bytes, part_bytes, Canon}
+use Rattle.ig_value.specs.Limits.{AreCountable, FitsPart, FitsTo, greatest, inside, Depth, part_nodes, Nodes}
 use Rattle.ig_value.proofs.Folds.{Canon_out, Depth_out, Nodes_out}
 
 -- ---- a spelling is canonical

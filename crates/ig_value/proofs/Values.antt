@@ -1,17 +1,16 @@
 -- Values are read as they are spelled, and stop where they stop, at every depth.
-use Rattle.std.proofs.Common.{◌≡◌, ◌≢◌, ℕ, zero, suc, ◌+◌, ◌<◌, List, [], ◌∷◌, ◌++◌, length, Option, Some, None, Result, Ok, Err, refl, sym, ap, subst, ◌∙◌, arith, inl, inr, ◌⊎◌}
+use Rattle.std.proofs.Common.{◌≡◌, ℕ, zero, suc, List, [], ◌∷◌, ◌++◌, length, Option, Some, None, Ok, Err, refl, sym, ap, subst, ◌∙◌, arith, inl, inr}
 use Rattle.std.proofs.lemmas.List.{nil_from_length}
 use Rattle.ig_base.specs.Numbers.{AreBytes}
 use Rattle.ig_value.specs.declared.cause.Cause.{Cause}
 use Rattle.ig_value.specs.declared.cause.Cause.TheVariants as cause
 use Rattle.ig_value.specs.declared.code.Code.{Code}
 use Rattle.ig_value.specs.declared.value.Value.{Value, out-Value}
-use Rattle.ig_value.specs.Part.{Content}
 use Rattle.ig_value.specs.Table.{byte_of, content, parts, build, code_at}
 use Rattle.ig_value.specs.Spells.{IsCoded, SpellsPart, SpellsTo}
-use Rattle.ig_value.specs.Stops.{IsCut, IsUnknown, IsDeep, StopsCoded, StopsInside, StopsPart, StopsTo}
-use Rattle.ig_value.specs.Reading.{Fault, Read, ◌>>=◌, seen, part_at, content_at, known_at, value_at}
-use Rattle.ig_value.proofs.Agrees.{Agrees, Takes, Halts, Halted, AreBytes-drop, bind_ok, bind_err, ok_is, err_is}
+use Rattle.ig_value.specs.Stops.{IsCut, StopsPart, StopsTo}
+use Rattle.ig_value.specs.Reading.{Fault, part_at, content_at, known_at, value_at}
+use Rattle.ig_value.proofs.Agrees.{Agrees, Takes, Halts, Halted, bind_ok, bind_err, ok_is, err_is}
 use Rattle.ig_value.proofs.Items.{coded_takes, coded_halts}
 use Rattle.ig_value.proofs.Parts.{part_agrees, content_proper}
 use Rattle.ig_value.proofs.Rows.{Row, built, rebuilt, code_of_byte, code_again, no_code, code_unknown}

@@ -1,12 +1,12 @@
 -- What every value keeps: at most 32 levels, lists and texts that an Int32 counts, numbers of their types, texts of UTF-8.
-use Rattle.std.specs.Prelude.{ℕ, zero, suc, ◌+◌, ◌<◌, ◌^◌, max, List, [], ◌∷◌, ◌++◌, length, sum_by, Option, None, Some}
+use Rattle.std.specs.Prelude.{ℕ, zero, suc, ◌+◌, ◌<◌, ◌^◌, max, List, [], ◌∷◌, length, sum_by, Option, None, Some}
 use Rattle.std.specs.List.{AllByRecursion, flat_map}
 use Rattle.std.specs.Str.{IsUtf8}
 use Rattle.ig_base.specs.Numbers.{AreBytes}
 use Rattle.ig_value.specs.declared.value.Value.{Value, out-Value}
 use Rattle.ig_value.specs.declared.value.Value.TheOpen.{Value-F}
 use Rattle.ig_value.specs.declared.value.Value.TheFolds.{fold-Value}
-use Rattle.ig_value.specs.Part.{Scalar, i8, i16, i32, i64, u16, u32, u64, truth, ScalarValue, Part, nothing, scalar, text, octets, uuid, stamp, decimal, value, both, counted, optional, Content}
+use Rattle.ig_value.specs.Part.{i32, i64, u64, Part, nothing, scalar, text, octets, uuid, stamp, decimal, value, both, counted, optional, Content}
 use Rattle.ig_value.specs.Table.{content, parts}
 use Rattle.ig_value.specs.Spells.{IsInRange}
 

@@ -1,5 +1,5 @@
 -- Which bytes spell which value. All of it is said of whole lists: nothing here reads from left to right.
-use Rattle.std.specs.Prelude.{◌≡◌, ℕ, zero, suc, ◌<◌, ◌^◌, pos, Bool, true, false, List, [], ◌∷◌, ◌++◌, length, Option, None, Some, FitsSigned}
+use Rattle.std.specs.Prelude.{◌≡◌, ℕ, zero, suc, ◌<◌, ◌^◌, pos, true, false, List, [], ◌∷◌, ◌++◌, length, Option, None, Some, FitsSigned}
 use Rattle.std.specs.Int.{w8, w16, w32, w64}
 use Rattle.std.specs.Str.{IsUtf8}
 use Rattle.ig_base.specs.Numbers.{LE, AreBytes}

@@ -1,5 +1,5 @@
 -- Where bytes stop being a value, and why: what stands before is whole and right, and the next item is wrong.
-use Rattle.std.specs.Prelude.{◌≡◌, ◌≢◌, ℕ, zero, suc, ◌+◌, ◌<◌, ◌≤◌, ◌^◌, ◌⊎◌, negsuc, pos, List, [], ◌∷◌, ◌++◌, length, take, FitsSigned}
+use Rattle.std.specs.Prelude.{◌≡◌, ◌≢◌, ℕ, zero, suc, ◌+◌, ◌<◌, ◌≤◌, ◌^◌, ◌⊎◌, negsuc, pos, List, ◌∷◌, ◌++◌, length, take, FitsSigned}
 use Rattle.std.specs.Int.{w32}
 use Rattle.std.specs.Str.{IsUtf8}
 use Rattle.ig_base.specs.Numbers.{LE}
@@ -7,10 +7,9 @@ use Rattle.ig_value.specs.declared.cause.Cause.{Cause}
 use Rattle.ig_value.specs.declared.cause.Cause.TheVariants as cause
 use Rattle.ig_value.specs.declared.code.Code.{Code}
 use Rattle.ig_value.specs.declared.code.Code.TheVariants as code
-use Rattle.ig_value.specs.declared.value.Value.{Value}
 use Rattle.ig_value.specs.Part.{Scalar, i8, i16, i32, i64, u16, u32, u64, truth, Part, nothing, scalar, text, octets, uuid, stamp, decimal, value, both, counted, optional}
 use Rattle.ig_value.specs.Table.{byte_of, content}
-use Rattle.ig_value.specs.Spells.{IsScalar, IsRun, SpellsPart, SpellsTo}
+use Rattle.ig_value.specs.Spells.{IsScalar, SpellsPart, SpellsTo}
 
 -- ---- one part. `at` counts from the beginning of the list.
 

@@ -6,7 +6,7 @@ use Rattle.ig_value.specs.declared.code.Code.TheVariants as code
 use Rattle.ig_value.specs.declared.value.Value.{Value}
 use Rattle.ig_value.specs.declared.value.Value.TheVariants as value
 use Rattle.ig_value.specs.declared.value.Value.TheOpen.{Value-F}
-use Rattle.ig_value.specs.Part.{Scalar, i8, i16, i32, i64, u16, u32, u64, truth, Part, nothing, scalar, text, octets, uuid, stamp, decimal, value, both, counted, optional, array, Content}
+use Rattle.ig_value.specs.Part.{i8, i16, i32, i64, u16, u32, u64, truth, Part, nothing, scalar, text, octets, uuid, stamp, decimal, value, both, counted, optional, array, Content}
 
 -- the byte that stands for a code
 abbrev pub byte_of : Code → ℕ

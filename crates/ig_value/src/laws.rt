@@ -9,8 +9,7 @@ pub fn one_reading()
     ensures one_front { OneFrontSpells }
     ensures one_stop { OneStop }
     ensures not_both { NoStopBehindValue }
-{
-}
+{}
 
 /// A value that keeps to the limits has one canonical form, which is a spelling of it, the shortest, and of no other value.
 pub fn one_form()
@@ -18,13 +17,11 @@ pub fn one_form()
     ensures spells { CanonSpells }
     ensures shortest { CanonIsShortest }
     ensures apart { CanonTellsApart }
-{
-}
+{}
 
 /// A value is no larger than its spelling, and no deeper than the limits let it be.
 pub fn bounded_trees()
     ensures nodes { ByteForEachNode }
     ensures shallow { FitsIsShallow }
     ensures own_depth { FitsAtItsDepth }
-{
-}
+{}

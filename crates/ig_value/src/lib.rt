@@ -5,8 +5,8 @@ mod cause;
 mod code;
 mod copy;
 mod depth;
-mod leaves;
 mod laws;
+mod leaves;
 mod same;
 mod value;
 

@@ -1,8 +1,10 @@
-//! Times reading and writing values, for `bench/`. Given a number of rounds, it prints the least time of each in
-//! nanoseconds (a name after it picks one); given none, it runs each once and prints nothing.
+//! Times reading and writing values, beside the yardstick in `bench/values`.
+//!
+//! The words are a number of rounds, a name and a size. Without a name it takes each value once. Standard output has the
+//! bytes of each value's canonical form; the least times, in nanoseconds, go to standard error.
 #![tactic(auto)]
 
-use anyhow::{Context, Result, anyhow};
+use anyhow::{Context, Result, bail, ensure};
 use ig_base::{Items, Octets, Text};
 use ig_decode::decode;
 use ig_encode::{canonical_len, encode};
@@ -12,129 +14,127 @@ use std::env;
 use std::rt::{Clock, Env};
 use std::time::Instant;
 
-fn bytes(alloc: Global, count: usize) -> Result<Value> {
+/// A list of as many items, each made of its place.
+fn items<T: Drop, F: Fn(i32) -> T>(alloc: Global, size: i32, make: F) -> Result<Items<T>>
+    requires { F.IsAlwaysCallable make }
+{
     let mut items = Vec::new(alloc);
-    for _ in 0..count {
-        items.push(-3i8)?;
+    for i in 0..size {
+        items.push(make(i))?;
     }
-    Ok(Value::Bytes(Items::new(items)))
+    Ok(Items::new(items))
 }
 
-fn ints(alloc: Global, count: i32) -> Result<Value> {
-    let mut items = Vec::new(alloc);
-    for i in 0..count {
-        items.push(i)?;
-    }
-    Ok(Value::Ints(Items::new(items)))
+fn small(alloc: Global, i: i32) -> Result<Value> {
+    Ok(match i % 5 {
+        0 => Value::Int(i),
+        1 => Value::Str(Text::new(String::from_str(alloc, "a small text")?)),
+        2 => Value::Null,
+        3 => Value::Bool(true),
+        _ => Value::Long(i64::from(i)),
+    })
 }
 
-fn doubles(alloc: Global, count: u64) -> Result<Value> {
+fn list(alloc: Global, size: i32) -> Result<Value> {
     let mut items = Vec::new(alloc);
-    for i in 0..count {
-        items.push(i)?;
+    for i in 0..size {
+        items.push(small(alloc, i)?)?;
     }
-    Ok(Value::Doubles(Items::new(items)))
+    let items = Items::new(items);
+    Ok(Value::Collection { kind: 1, items })
 }
 
-fn text(alloc: Global, count: usize) -> Result<Value> {
+fn nested(alloc: Global, size: i32) -> Result<Value> {
+    let mut items = Vec::new(alloc);
+    for _ in 0..size {
+        items.push(list(alloc, 5)?)?;
+    }
+    let items = Items::new(items);
+    Ok(Value::Collection { kind: 1, items })
+}
+
+fn map(alloc: Global, size: i32) -> Result<Value> {
+    let mut pairs = Vec::new(alloc);
+    for i in 0..size {
+        pairs.push((Value::Int(i), small(alloc, i)?))?;
+    }
+    let pairs = Items::new(pairs);
+    Ok(Value::Map { kind: 1, pairs })
+}
+
+fn text(alloc: Global, size: i32) -> Result<Value> {
     let mut letters = String::new(alloc);
-    for _ in 0..count / 4 {
+    for _ in 0..size / 4 {
         letters.push_str("abé")?;
     }
     Ok(Value::Str(Text::new(letters)))
 }
 
-fn small(alloc: Global, i: i32) -> Result<Value> {
-    let mut items = Vec::new(alloc);
-    items.push(Value::Int(i))?;
-    items.push(Value::Str(Text::new(String::from_str(alloc, "a small text")?)))?;
-    items.push(Value::Null)?;
-    items.push(Value::Bool(true))?;
-    items.push(Value::Long(i64::from(i)))?;
-    Ok(Value::Collection {
-        kind: 1,
-        items: Items::new(items),
-    })
-}
-
-fn nested(alloc: Global, count: i32) -> Result<Value> {
-    let mut items = Vec::new(alloc);
-    for i in 0..count {
-        items.push(small(alloc, i)?)?;
+/// The value of a name, of so many items.
+fn named(alloc: Global, name: &str, size: i32) -> Result<Value> {
+    match name {
+        "bytes" => Ok(Value::Bytes(items(alloc, size, |i| (i % 128) as i8)?)),
+        "ints" => Ok(Value::Ints(items(alloc, size, |i| i)?)),
+        "longs" => Ok(Value::Longs(items(alloc, size, |i| i64::from(i))?)),
+        "doubles" => Ok(Value::Doubles(items(alloc, size, |i| u64::from(i.unsigned_abs()))?)),
+        "text" => text(alloc, size),
+        "list" => list(alloc, size),
+        "nested" => nested(alloc, size),
+        "map" => map(alloc, size),
+        _ => bail!("no value has this name"),
     }
-    Ok(Value::Collection {
-        kind: 1,
-        items: Items::new(items),
-    })
 }
 
-fn measure<R: Print + Clock + AllocGlobal>(
-    rt: &R,
+/// Writes and reads the value in each round.
+fn measure(
+    rt: &(impl Print + Eprint + Clock + AllocGlobal),
+    rounds: u32,
     name: &str,
-    rounds: Option<u32>,
-    value: &Value,
+    size: i32,
 ) -> Result<()> {
+    let value = named(rt.alloc(), name, size)?;
     let (mut writing, mut reading) = (u128::MAX, u128::MAX);
-    for _ in 0..rounds.unwrap_or(1) {
+    for _ in 0..rounds {
         let mut bytes = Octets::empty(rt.alloc());
         let start = Instant::now(rt)?;
-        if canonical_len(value) > 2_000_000_000 {
-            return Err(anyhow!("{name} is too long"));
-        }
-        encode(rt.alloc(), value, &mut bytes)?;
+        ensure!(
+            canonical_len(&value) < 2_147_483_648,
+            "the value is too long"
+        );
+        encode(rt.alloc(), &value, &mut bytes)?;
         writing = writing.min(start.elapsed(rt)?.as_nanos());
         let start = Instant::now(rt)?;
         let read = decode(rt.alloc(), bytes.as_slice());
         reading = reading.min(start.elapsed(rt)?.as_nanos());
         match read {
-            Ok(read) => {
-                if read.used != bytes.len() {
-                    return Err(anyhow!("{name} is read in part"));
-                }
-            }
-            Err(_) => return Err(anyhow!("{name} is not read")),
+            Ok(read) => ensure!(read.used == bytes.len(), "the value is read in part"),
+            Err(_) => bail!("the value is not read"),
         }
     }
-    if rounds.is_some() {
-        println!(rt; "{name} decode {reading} encode {writing}")?;
-    }
+    let length = canonical_len(&value);
+    println!(rt; "{name} of {size}: {length} bytes")?;
+    eprintln!(rt; "decode {reading} encode {writing}")?;
     Ok(())
-}
-
-/// Whether a measure is to run, where a name may pick one.
-fn picks(only: &Option<String>, name: &str) -> bool {
-    match only {
-        None => true,
-        Some(word) => word.as_str() == name,
-    }
 }
 
 fn main(rt: HostRuntime) -> Result<()> {
     let mut words = env::args(&rt)?.skip(1);
     let rounds = match words.next() {
-        None => None,
-        Some(word) => Some(
-            word.as_str()
-                .parse::<u32>()
-                .context("the number of rounds")?,
-        ),
+        Some(word) => word
+            .as_str()
+            .parse::<u32>()
+            .context("the number of rounds")?,
+        None => 1,
     };
-    let only = words.next();
-    let alloc = rt.alloc();
-    if picks(&only, "bytes") {
-        measure(&rt, "bytes", rounds, &bytes(alloc, 4_000_000)?)?;
+    if let Some(name) = words.next() {
+        let size = words.next().context("the size")?;
+        let size = size.as_str().parse::<i32>().context("the size")?;
+        return measure(&rt, rounds, name.as_str(), size);
     }
-    if picks(&only, "ints") {
-        measure(&rt, "ints", rounds, &ints(alloc, 1_000_000)?)?;
-    }
-    if picks(&only, "doubles") {
-        measure(&rt, "doubles", rounds, &doubles(alloc, 500_000)?)?;
-    }
-    if picks(&only, "text") {
-        measure(&rt, "text", rounds, &text(alloc, 1_048_576)?)?;
-    }
-    if picks(&only, "nested") {
-        measure(&rt, "nested", rounds, &nested(alloc, 1_000)?)?;
+    for name in [
+        "bytes", "ints", "longs", "doubles", "text", "list", "nested", "map",
+    ] {
+        measure(&rt, rounds, name, 1000)?;
     }
     Ok(())
 }

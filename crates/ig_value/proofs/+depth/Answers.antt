@@ -1,5 +1,5 @@
 -- The depth of each variant, and the steps of the two loops.
-use Rattle.std.proofs.Common.{◌≡◌, ◌+◌, ◌*◌, ◌<◌, ◌≤◌, max, suc, map, get_or, take, ap, sym, ◌∙◌, arith, add-one}
+use Rattle.std.proofs.Common.{◌≡◌, ◌≤◌, max, map, ap, sym, arith, add-one}
 use Rattle.ig_value.specs.Limits.{Depth, greatest, pair_depth}
 use Rattle.ig_value.proofs.Depths.{greatest_item, greatest_more, Depth_objects, Depth_collection, Depth_map, Depth_enums, Depth_default}
 use Rattle.ig_value.proofs.+depth.Goals as goal
@@ -8,7 +8,7 @@ use Rattle.ig_value.proofs.+depth.Goals.{depth::greatest_depth-then-greatest-dep
 pub depth::greatest_depth-depth-depth-requires : goal.depth::greatest_depth-depth-depth-requires
 depth::greatest_depth-depth-depth-requires t c =
     let le : Depth c.value-item.result ≤ greatest (map Depth c.args.values.now) =
-        omega (arith, greatest_item Depth c.args.values.now c.loop-value.value-index c.value-item.result c.loop-value-test.true, ap Depth c.value-item.is) in
+    omega (arith, greatest_item Depth c.args.values.now c.loop-value.value-index c.value-item.result c.loop-value-test.true, ap Depth c.value-item.is) in
     (omega arith, omega arith)
 
 pub depth::greatest_depth-loop-value-preserved : goal.depth::greatest_depth-loop-value-preserved
@@ -86,13 +86,13 @@ value::Value::depth-returns-in-Enums t c =
 pub depth::greatest_pair_depth-depth-first-requires : goal.depth::greatest_pair_depth-depth-first-requires
 depth::greatest_pair_depth-depth-first-requires t c =
     let le : pair_depth c.pair-item.result ≤ greatest (map pair_depth c.args.pairs.now) =
-        omega (arith, greatest_item pair_depth c.args.pairs.now c.loop-pair.pair-index c.pair-item.result c.loop-pair-test.true, ap pair_depth c.pair-item.is) in
+    omega (arith, greatest_item pair_depth c.args.pairs.now c.loop-pair.pair-index c.pair-item.result c.loop-pair-test.true, ap pair_depth c.pair-item.is) in
     (omega arith, omega arith)
 
 pub depth::greatest_pair_depth-depth-second-requires : goal.depth::greatest_pair_depth-depth-second-requires
 depth::greatest_pair_depth-depth-second-requires t c =
     let le : pair_depth c.pair-item.result ≤ greatest (map pair_depth c.args.pairs.now) =
-        omega (arith, greatest_item pair_depth c.args.pairs.now c.loop-pair.pair-index c.pair-item.result c.loop-pair-test.true, ap pair_depth c.pair-item.is) in
+    omega (arith, greatest_item pair_depth c.args.pairs.now c.loop-pair.pair-index c.pair-item.result c.loop-pair-test.true, ap pair_depth c.pair-item.is) in
     (omega arith, omega arith)
 
 pub depth::greatest_pair_depth-loop-pair-preserved : goal.depth::greatest_pair_depth-loop-pair-preserved
@@ -100,10 +100,10 @@ depth::greatest_pair_depth-loop-pair-preserved t c =
     let more = greatest_more pair_depth c.args.pairs.now c.loop-pair.pair-index c.pair-item.result c.loop-pair-test.true in
     let this = ap pair_depth c.pair-item.is in
     let first : c.if-greatest-first.greatest ≡ max c.loop-pair.greatest c.depth-first.result =
-        elim c.if-greatest-first.branch [
-          | depth::greatest_pair_depth-then-greatest-first w ↦ omega arith
-          | depth::greatest_pair_depth-else-greatest-first w ↦ omega arith
-        ] in
+    elim c.if-greatest-first.branch [
+      | depth::greatest_pair_depth-then-greatest-first w ↦ omega arith
+      | depth::greatest_pair_depth-else-greatest-first w ↦ omega arith
+    ] in
     elim c.if-greatest-second.branch [
       | depth::greatest_pair_depth-then-greatest-second w ↦ rw add-one (omega (arith, more, this, first, c.loop-pair.invariant, c.depth-first.ensures, c.depth-second.ensures))
       | depth::greatest_pair_depth-else-greatest-second w ↦ rw add-one (omega (arith, more, this, first, c.loop-pair.invariant, c.depth-first.ensures, c.depth-second.ensures))

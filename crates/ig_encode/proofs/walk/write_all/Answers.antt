@@ -14,5 +14,5 @@ pub loop-element-preserved : goal.loop-element-preserved
 loop-element-preserved g c = record {
   place = omega (arith, c.width-width.ensures.count, c.loop-element.invariant.place);
   written = written_more g.E.Spell.bytes g.E.Element.byte_count g.met.E.Element.wide c.args.into.now c.args.at c.args.elements.now c.loop-element.element-index c.element-item.result c.loop-element.place c.loop-element.into c.write_at.new.into
-      c.loop-element-test.true c.requires c.element-item.is c.loop-element.invariant.place c.loop-element.invariant.written c.write_at.ensures
+      c.loop-element-test.true c.requires c.element-item.is c.loop-element.invariant.place c.loop-element.invariant.written c.write_at.ensures;
 }
