@@ -1,10 +1,10 @@
 -- Reading many, one after the other, as a loop does.
-use Rattle.std.proofs.Common.{◌≡◌, ℕ, zero, suc, ◌-◌, ◌+◌, ◌*◌, ◌/◌, ◌%◌, ◌≤◌, ◌<◌, min, List, [], ◌∷◌, ◌++◌, length, take, drop, Result, Ok, Err, refl, sym, ap, ◌∙◌, append_assoc, arith}
+use Rattle.std.proofs.Common.{◌≡◌, ℕ, suc, ◌-◌, ◌+◌, ◌*◌, ◌/◌, ◌≤◌, ◌<◌, min, List, [], ◌∷◌, ◌++◌, length, take, drop, Result, Ok, Err, refl, sym, ap, ◌∙◌, append_assoc, arith}
 use Rattle.std.proofs.lemmas.List.{append-nil}
 use Rattle.std.proofs.Math.Nat.{mul-le-mul_right, div-mul-le_self, div-add-mod, mod-lt}
 use Rattle.ig_value.specs.declared.cause.Cause.{Cause}
-use Rattle.ig_value.specs.Reading.{Fault, Read, ◌>>=◌, item_at, many_at}
-use Rattle.ig_value.proofs.Items.{item_whole, item_short}
+use Rattle.ig_value.specs.Reading.{Read, ◌>>=◌, item_at, many_at}
+use Rattle.ig_value.proofs.Items.{item_whole}
 use Rattle.ig_decode.specs.declared.fault.ReadError.{ReadError}
 use Rattle.ig_decode.specs.declared.fault.ReadError.TheVariants as error
 use Rattle.ig_decode.specs.Gives.{Fails}

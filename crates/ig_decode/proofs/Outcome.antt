@@ -1,6 +1,6 @@
 -- What reading the list gives, said of the grammar.
-use Rattle.std.proofs.Common.{◌≡◌, ℕ, ◌+◌, ◌-◌, ◌≤◌, ◌<◌, Bool, true, false, List, [], ◌++◌, length, take, drop, Result, Ok, Err, refl, sym, ap, subst, ◌∙◌, arith, length-append, length-drop, rules, eq-eqb, ◌&&◌}
-use Rattle.std.specs.Prelude.{IsTrue, ◌↔◌, nat_eq}
+use Rattle.std.proofs.Common.{◌≡◌, ℕ, ◌+◌, ◌-◌, ◌≤◌, Bool, true, false, List, [], ◌++◌, length, take, drop, Ok, Err, refl, sym, ap, subst, ◌∙◌, arith, length-append, length-drop, rules, eq-eqb, ◌&&◌}
+use Rattle.std.specs.Prelude.{IsTrue, nat_eq}
 use Rattle.std.proofs.lemmas.List.{take_at, drop_at, drop-drop, append-nil, take_all}
 use Rattle.std.proofs.lemmas.Bool.{eqb-true}
 use Rattle.ig_base.specs.Numbers.{AreBytes}
@@ -9,13 +9,12 @@ use Rattle.ig_value.specs.declared.Value.{Value}
 use Rattle.ig_value.specs.Spells.{Spells, SpellsTo}
 use Rattle.ig_value.specs.Stops.{Stops, StopsTo}
 use Rattle.ig_value.specs.Canon.{Canon}
-use Rattle.ig_value.specs.Limits.{Fits, FitsTo, Nodes}
-use Rattle.ig_value.specs.Reading.{Fault, Read, value_at, reading}
-use Rattle.ig_value.proofs.Agrees.{Takes, Halts, Halted, AreBytes-drop, ok_is, err_is}
+use Rattle.ig_value.specs.Limits.{Fits, Nodes}
+use Rattle.ig_value.specs.Reading.{Fault, value_at, reading}
+use Rattle.ig_value.proofs.Agrees.{Takes, Halts, AreBytes-drop, ok_is, err_is}
 use Rattle.ig_value.proofs.Values.{value_agrees}
 use Rattle.ig_value.proofs.Spelled.{spelled_canonical, spelled_fits, spelled_nodes}
 use Rattle.ig_decode.specs.declared.answer.Decoded.{Decoded}
-use Rattle.ig_decode.specs.declared.fault.Refusal.{Refusal}
 use Rattle.ig_decode.specs.Answers.{IsFound, IsRefused, IsCanonical}
 
 -- ---- a value was read

@@ -1,5 +1,5 @@
 -- Two parts, one after the other.
-use Rattle.std.proofs.Common.{◌≡◌, ℕ, List, Ok, Err, refl}
+use Rattle.std.proofs.Common.{◌≡◌, ℕ, List, Ok, refl}
 use Rattle.ig_value.specs.Reading.{Read, both_at}
 use Rattle.ig_decode.specs.declared.fault.ReadError.{ReadError}
 use Rattle.ig_decode.specs.declared.fault.ReadError.TheVariants as error

@@ -1,9 +1,9 @@
-use Rattle.std.proofs.Common.{◌≡◌, ◌+◌, ◌*◌, ◌/◌, ◌≤◌, ◌<◌, min, ℕ, length, take, drop, List, [], ◌∷◌, ◌++◌, Ok, Err, refl, sym, ap, ◌∙◌, arith, length-append, length-drop, add-one}
+use Rattle.std.proofs.Common.{◌≡◌, ◌+◌, ◌*◌, ◌/◌, ◌<◌, min, length, take, drop, [], ◌∷◌, ap, ◌∙◌, arith, length-append, length-drop}
 use Rattle.ig_value.specs.declared.cause.Cause.TheVariants as cause
 use Rattle.ig_value.specs.Reading.{item_at, many_at}
 use Rattle.ig_value.proofs.Items.{item_short}
 use Rattle.ig_decode.specs.declared.fault.ReadError.TheVariants as error
-use Rattle.ig_decode.proofs.Loop.{with_front, goes_on, ends, item_found, item_wrong, one_more, none_more, whole_fits}
+use Rattle.ig_decode.proofs.Loop.{goes_on, ends, item_found, item_wrong, one_more, none_more, whole_fits}
 use Rattle.ig_decode.proofs.element.elements_at.Goals as goal
 
 pub returns-in-Err : goal.returns-in-Err

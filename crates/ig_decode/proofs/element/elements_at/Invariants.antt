@@ -1,4 +1,4 @@
-use Rattle.std.proofs.Common.{◌≡◌, ◌+◌, ◌-◌, ◌*◌, ◌≤◌, length, vec_capacity}
+use Rattle.std.proofs.Common.{◌≡◌, ◌+◌, ◌-◌, ◌*◌, length, vec_capacity}
 use Rattle.ig_value.specs.Reading.{item_at, many_at}
 use Rattle.ig_decode.proofs.Loop.{with_front}
 use Rattle.ig_decode.proofs.element.elements_at.Given as goal

@@ -1,4 +1,3 @@
-use Rattle.std.proofs.Common.{arith}
 use Rattle.std.proofs.lemmas.Result.{err_from_is_err_and}
 use Rattle.ig_value.specs.Table.{byte_of}
 use Rattle.ig_value.specs.Reading.{optional_at, many_at}

@@ -1,13 +1,10 @@
 -- Each row of the table, and the two loops.
-use Rattle.std.proofs.Common.{◌≡◌, ap, sym, ◌∙◌, Ok, rules, refl}
-use Rattle.std.specs.Prelude.{FitsSigned}
-use Rattle.std.specs.Int.{w8, w16, w32, w64}
-use Rattle.std.proofs.lemmas.Int.{to_z-of_z}
+use Rattle.std.proofs.Common.{refl}
 use Rattle.std.proofs.lemmas.Result.{err_from_is_err_and}
 use Rattle.ig_value.specs.declared.code.Code.TheVariants as code
 use Rattle.ig_value.specs.Table.{build}
 use Rattle.ig_value.specs.Reading.{value_at, many_at, both_at}
-use Rattle.ig_decode.proofs.Loop.{goes_on, ends, is_done}
+use Rattle.ig_decode.proofs.Loop.{goes_on, ends}
 use Rattle.ig_decode.proofs.Two.{both_found, first_fails, second_fails}
 use Rattle.ig_decode.proofs.value.+value.Goals as goal
 

@@ -1,4 +1,4 @@
-use Rattle.std.proofs.Common.{◌≡◌, ap, sym, ◌∙◌, arith}
+use Rattle.std.proofs.Common.{arith}
 use Rattle.ig_decode.proofs.Texts.{text_found, text_wrong}
 use Rattle.ig_decode.proofs.parts.TextContent.read.Goals as goal
 
