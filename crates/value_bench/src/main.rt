@@ -85,6 +85,29 @@ fn named(alloc: Global, name: &str, size: i32) -> Result<Value> {
     }
 }
 
+/// Appends the value's bytes. Answers how many nanoseconds it took.
+fn write(rt: &(impl Clock + AllocGlobal), value: &Value, bytes: &mut Octets) -> Result<u128> {
+    let start = Instant::now(rt)?;
+    ensure!(
+        canonical_len(value) < 2_147_483_648,
+        "the value is too long"
+    );
+    encode(rt.alloc(), value, bytes)?;
+    Ok(start.elapsed(rt)?.as_nanos())
+}
+
+/// Reads the value again. Answers how many nanoseconds it took.
+fn read(rt: &(impl Clock + AllocGlobal), bytes: &[u8]) -> Result<u128> {
+    let start = Instant::now(rt)?;
+    let read = decode(rt.alloc(), bytes);
+    let nanos = start.elapsed(rt)?.as_nanos();
+    match read {
+        Ok(read) => ensure!(read.used == bytes.len(), "the value is read in part"),
+        Err(_) => bail!("the value is not read"),
+    }
+    Ok(nanos)
+}
+
 /// Writes and reads the value in each round.
 fn measure(
     rt: &(impl Print + Eprint + Clock + AllocGlobal),
@@ -96,20 +119,8 @@ fn measure(
     let (mut writing, mut reading) = (u128::MAX, u128::MAX);
     for _ in 0..rounds {
         let mut bytes = Octets::empty(rt.alloc());
-        let start = Instant::now(rt)?;
-        ensure!(
-            canonical_len(&value) < 2_147_483_648,
-            "the value is too long"
-        );
-        encode(rt.alloc(), &value, &mut bytes)?;
-        writing = writing.min(start.elapsed(rt)?.as_nanos());
-        let start = Instant::now(rt)?;
-        let read = decode(rt.alloc(), bytes.as_slice());
-        reading = reading.min(start.elapsed(rt)?.as_nanos());
-        match read {
-            Ok(read) => ensure!(read.used == bytes.len(), "the value is read in part"),
-            Err(_) => bail!("the value is not read"),
-        }
+        writing = writing.min(write(rt, &value, &mut bytes)?);
+        reading = reading.min(read(rt, bytes.as_slice())?);
     }
     let length = canonical_len(&value);
     println!(rt; "{name} of {size}: {length} bytes")?;
