@@ -23,6 +23,14 @@ pub(crate) trait Spell {
     /// Puts its bytes.
     fn put<S: Sink>(&self, out: &mut S, into: &mut [u8])
         ensures { (out.new, into.new) ≡ S.after out.old into.old (bytes self.now) };
+
+    /// Puts a code, and its bytes behind it.
+    fn put_behind<S: Sink>(&self, code: Code, out: &mut S, into: &mut [u8])
+        ensures { (out.new, into.new) ≡ S.after out.old into.old (byte_of code ∷ bytes self.now) }
+    {
+        out.put(into, &[code.byte()]);
+        self.put(out, into);
+    }
 }
 
 /// What always has so many bytes.
@@ -49,6 +57,11 @@ impl Spell for i8 {
     fn put<S: Sink>(&self, out: &mut S, into: &mut [u8]) {
         out.put(into, &self.to_le_bytes());
     }
+
+    fn put_behind<S: Sink>(&self, code: Code, out: &mut S, into: &mut [u8]) {
+        let [a] = self.to_le_bytes();
+        out.put(into, &[code.byte(), a]);
+    }
 }
 
 #[tactic(auto, unfolding(ig_base::specs::Numbers::LE))]
@@ -57,6 +70,11 @@ impl Spell for i16 {
 
     fn put<S: Sink>(&self, out: &mut S, into: &mut [u8]) {
         out.put(into, &self.to_le_bytes());
+    }
+
+    fn put_behind<S: Sink>(&self, code: Code, out: &mut S, into: &mut [u8]) {
+        let [a, b] = self.to_le_bytes();
+        out.put(into, &[code.byte(), a, b]);
     }
 }
 
@@ -67,6 +85,11 @@ impl Spell for i32 {
     fn put<S: Sink>(&self, out: &mut S, into: &mut [u8]) {
         out.put(into, &self.to_le_bytes());
     }
+
+    fn put_behind<S: Sink>(&self, code: Code, out: &mut S, into: &mut [u8]) {
+        let [a, b, c, d] = self.to_le_bytes();
+        out.put(into, &[code.byte(), a, b, c, d]);
+    }
 }
 
 #[tactic(auto, unfolding(ig_base::specs::Numbers::LE))]
@@ -75,6 +98,11 @@ impl Spell for i64 {
 
     fn put<S: Sink>(&self, out: &mut S, into: &mut [u8]) {
         out.put(into, &self.to_le_bytes());
+    }
+
+    fn put_behind<S: Sink>(&self, code: Code, out: &mut S, into: &mut [u8]) {
+        let [a, b, c, d, e, f, g, h] = self.to_le_bytes();
+        out.put(into, &[code.byte(), a, b, c, d, e, f, g, h]);
     }
 }
 
@@ -85,6 +113,11 @@ impl Spell for u16 {
     fn put<S: Sink>(&self, out: &mut S, into: &mut [u8]) {
         out.put(into, &self.to_le_bytes());
     }
+
+    fn put_behind<S: Sink>(&self, code: Code, out: &mut S, into: &mut [u8]) {
+        let [a, b] = self.to_le_bytes();
+        out.put(into, &[code.byte(), a, b]);
+    }
 }
 
 #[tactic(auto, unfolding(ig_base::specs::Numbers::LE))]
@@ -93,6 +126,11 @@ impl Spell for u32 {
 
     fn put<S: Sink>(&self, out: &mut S, into: &mut [u8]) {
         out.put(into, &self.to_le_bytes());
+    }
+
+    fn put_behind<S: Sink>(&self, code: Code, out: &mut S, into: &mut [u8]) {
+        let [a, b, c, d] = self.to_le_bytes();
+        out.put(into, &[code.byte(), a, b, c, d]);
     }
 }
 
@@ -103,6 +141,11 @@ impl Spell for u64 {
     fn put<S: Sink>(&self, out: &mut S, into: &mut [u8]) {
         out.put(into, &self.to_le_bytes());
     }
+
+    fn put_behind<S: Sink>(&self, code: Code, out: &mut S, into: &mut [u8]) {
+        let [a, b, c, d, e, f, g, h] = self.to_le_bytes();
+        out.put(into, &[code.byte(), a, b, c, d, e, f, g, h]);
+    }
 }
 
 impl Spell for bool {
@@ -110,6 +153,10 @@ impl Spell for bool {
 
     fn put<S: Sink>(&self, out: &mut S, into: &mut [u8]) {
         out.put(into, &[if *self { 1 } else { 0 }]);
+    }
+
+    fn put_behind<S: Sink>(&self, code: Code, out: &mut S, into: &mut [u8]) {
+        out.put(into, &[code.byte(), if *self { 1 } else { 0 }]);
     }
 }
 

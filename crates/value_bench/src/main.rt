@@ -87,11 +87,11 @@ fn named(alloc: Global, name: &str, size: i32) -> Result<Value> {
 
 /// Appends the value's bytes. Answers how many nanoseconds it took.
 fn write(rt: &(impl Clock + AllocGlobal), value: &Value, bytes: &mut Octets) -> Result<u128> {
-    let start = Instant::now(rt)?;
     ensure!(
         canonical_len(value) < 2_147_483_648,
         "the value is too long"
     );
+    let start = Instant::now(rt)?;
     encode(rt.alloc(), value, bytes)?;
     Ok(start.elapsed(rt)?.as_nanos())
 }
