@@ -23,14 +23,6 @@ pub(crate) trait Spell {
     /// Puts its bytes.
     fn put<S: Sink>(&self, out: &mut S, into: &mut [u8])
         ensures { (out.new, into.new) ≡ S.after out.old into.old (bytes self.now) };
-
-    /// Puts a code, and its bytes behind it.
-    fn put_behind<S: Sink>(&self, code: Code, out: &mut S, into: &mut [u8])
-        ensures { (out.new, into.new) ≡ S.after out.old into.old (byte_of code ∷ bytes self.now) }
-    {
-        out.put(into, &[code.byte()]);
-        self.put(out, into);
-    }
 }
 
 /// What always has so many bytes.
@@ -57,11 +49,6 @@ impl Spell for i8 {
     fn put<S: Sink>(&self, out: &mut S, into: &mut [u8]) {
         out.put(into, &self.to_le_bytes());
     }
-
-    fn put_behind<S: Sink>(&self, code: Code, out: &mut S, into: &mut [u8]) {
-        let [a] = self.to_le_bytes();
-        out.put(into, &[code.byte(), a]);
-    }
 }
 
 #[tactic(auto, unfolding(ig_base::specs::Numbers::LE))]
@@ -70,11 +57,6 @@ impl Spell for i16 {
 
     fn put<S: Sink>(&self, out: &mut S, into: &mut [u8]) {
         out.put(into, &self.to_le_bytes());
-    }
-
-    fn put_behind<S: Sink>(&self, code: Code, out: &mut S, into: &mut [u8]) {
-        let [a, b] = self.to_le_bytes();
-        out.put(into, &[code.byte(), a, b]);
     }
 }
 
@@ -85,11 +67,6 @@ impl Spell for i32 {
     fn put<S: Sink>(&self, out: &mut S, into: &mut [u8]) {
         out.put(into, &self.to_le_bytes());
     }
-
-    fn put_behind<S: Sink>(&self, code: Code, out: &mut S, into: &mut [u8]) {
-        let [a, b, c, d] = self.to_le_bytes();
-        out.put(into, &[code.byte(), a, b, c, d]);
-    }
 }
 
 #[tactic(auto, unfolding(ig_base::specs::Numbers::LE))]
@@ -98,11 +75,6 @@ impl Spell for i64 {
 
     fn put<S: Sink>(&self, out: &mut S, into: &mut [u8]) {
         out.put(into, &self.to_le_bytes());
-    }
-
-    fn put_behind<S: Sink>(&self, code: Code, out: &mut S, into: &mut [u8]) {
-        let [a, b, c, d, e, f, g, h] = self.to_le_bytes();
-        out.put(into, &[code.byte(), a, b, c, d, e, f, g, h]);
     }
 }
 
@@ -113,11 +85,6 @@ impl Spell for u16 {
     fn put<S: Sink>(&self, out: &mut S, into: &mut [u8]) {
         out.put(into, &self.to_le_bytes());
     }
-
-    fn put_behind<S: Sink>(&self, code: Code, out: &mut S, into: &mut [u8]) {
-        let [a, b] = self.to_le_bytes();
-        out.put(into, &[code.byte(), a, b]);
-    }
 }
 
 #[tactic(auto, unfolding(ig_base::specs::Numbers::LE))]
@@ -126,11 +93,6 @@ impl Spell for u32 {
 
     fn put<S: Sink>(&self, out: &mut S, into: &mut [u8]) {
         out.put(into, &self.to_le_bytes());
-    }
-
-    fn put_behind<S: Sink>(&self, code: Code, out: &mut S, into: &mut [u8]) {
-        let [a, b, c, d] = self.to_le_bytes();
-        out.put(into, &[code.byte(), a, b, c, d]);
     }
 }
 
@@ -141,11 +103,6 @@ impl Spell for u64 {
     fn put<S: Sink>(&self, out: &mut S, into: &mut [u8]) {
         out.put(into, &self.to_le_bytes());
     }
-
-    fn put_behind<S: Sink>(&self, code: Code, out: &mut S, into: &mut [u8]) {
-        let [a, b, c, d, e, f, g, h] = self.to_le_bytes();
-        out.put(into, &[code.byte(), a, b, c, d, e, f, g, h]);
-    }
 }
 
 impl Spell for bool {
@@ -153,10 +110,6 @@ impl Spell for bool {
 
     fn put<S: Sink>(&self, out: &mut S, into: &mut [u8]) {
         out.put(into, &[if *self { 1 } else { 0 }]);
-    }
-
-    fn put_behind<S: Sink>(&self, code: Code, out: &mut S, into: &mut [u8]) {
-        out.put(into, &[code.byte(), if *self { 1 } else { 0 }]);
     }
 }
 

@@ -107,7 +107,8 @@ fn put_code<S: Sink>(code: Code, out: &mut S, into: &mut [u8])
 fn put_row<T: Spell, S: Sink>(code: Code, part: &T, out: &mut S, into: &mut [u8])
     ensures { (out.new, into.new) ≡ S.after out.old into.old (byte_of code ∷ T.bytes part.now) }
 {
-    part.put_behind(code, out, into);
+    put_code(code, out, into);
+    part.put(out, into);
 }
 
 /// Puts a code, and two parts behind it.
@@ -121,7 +122,8 @@ fn put_both<T: Spell, U: Spell, S: Sink>(
 )
     ensures { (out.new, into.new) ≡ S.after out.old into.old (byte_of code ∷ (T.bytes first.now ++ U.bytes second.now)) }
 {
-    first.put_behind(code, out, into);
+    put_code(code, out, into);
+    first.put(out, into);
     second.put(out, into);
 }
 
