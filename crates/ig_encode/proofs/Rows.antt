@@ -1,10 +1,10 @@
 -- The canonical form of a value, by its code and its content.
-use Rattle.std.proofs.Common.{◌≡◌, ℕ, List, ◌∷◌, ap, sym, ◌∙◌}
+use Rattle.std.proofs.Common.{◌≡◌, ℕ, List, ◌∷◌, ap, ◌∙◌}
 use Rattle.ig_value.specs.declared.Code.{Code}
 use Rattle.ig_value.specs.declared.Value.{Value, out-Value}
 use Rattle.ig_value.specs.Part.{Content}
 use Rattle.ig_value.specs.Table.{byte_of, content, parts, build}
-use Rattle.ig_value.specs.Canon.{part_bytes, layer_bytes, Canon}
+use Rattle.ig_value.specs.Canon.{part_bytes, Canon}
 use Rattle.ig_value.proofs.Folds.{Canon_out}
 use Rattle.ig_value.proofs.Rows.{Row, built}
 

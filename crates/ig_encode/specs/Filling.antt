@@ -1,9 +1,9 @@
 -- Filling a slice with the bytes from a place on.
 use Rattle.std.specs.Prelude.{◌≡◌, ℕ, zero, suc, ◌+◌, ◌-◌, ◌≤◌, ◌<◌, ◌⊎◌, min, List, [], ◌∷◌, ◌++◌, length, take, drop}
-use Rattle.std.proofs.Common.{refl, sym, ap, ◌∙◌, append_assoc, drop_of_length-le, arith, inl, inr, length-append, length-drop, length-take}
-use Rattle.std.proofs.Math.Seq.{drop-append-add, drop-nil, take-nil}
+use Rattle.std.proofs.Common.{refl, sym, ap, ◌∙◌, drop_of_length-le, arith, inl, inr, length-append, length-drop, length-take}
+use Rattle.std.proofs.Math.Seq.{drop-nil, take-nil}
 use Rattle.std.proofs.lemmas.Bool.{cases_lt}
-use Rattle.std.proofs.lemmas.List.{take_at, drop-drop, take-append-drop, nil_from_length}
+use Rattle.std.proofs.lemmas.List.{nil_from_length}
 use Rattle.ig_encode.specs.declared.part.Part.{Part}
 use Rattle.ig_encode.specs.Splice.{splice, splice_none, splice_both, length-splice}
 

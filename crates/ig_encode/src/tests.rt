@@ -263,11 +263,12 @@ fn parts(rt: HostRuntime) -> Result<(), Fail> {
         for room in 0..12usize {
             let mut into = [99u8; 12];
             let filled = encode_part(&read.value, from as u64, &mut into[..room]);
-            let left = if from < bytes.len() {
-                &bytes[from..]
+            let start = if from < bytes.len() {
+                from
             } else {
-                &bytes[..0]
+                bytes.len()
             };
+            let left = &bytes[start..];
             let wanted = if left.len() < room { left.len() } else { room };
             assert_eq!(rt; filled, wanted, "{room} from {from}");
             assert_eq!(rt; &into[..wanted], &left[..wanted], "{room} from {from}");

@@ -1,6 +1,5 @@
 use Rattle.ig_value.specs.Spells.{Spells}
 use Rattle.ig_value.specs.Canon.{Canon}
-use Rattle.ig_value.specs.Limits.{Fits}
 use Rattle.ig_value.specs.Reading.{reading}
 use Rattle.ig_value.proofs.Public.{canon_spells}
 use Rattle.ig_value.proofs.Values.{value_agrees}

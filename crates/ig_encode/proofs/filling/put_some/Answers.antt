@@ -1,4 +1,4 @@
-use Rattle.std.proofs.Common.{◌≡◌, ◌+◌, ◌-◌, ◌≤◌, length, sym, arith}
+use Rattle.std.proofs.Common.{arith}
 use Rattle.ig_encode.specs.Filling.{filled_nothing}
 use Rattle.ig_encode.proofs.filling.put_some.Goals as goal
 use Rattle.ig_encode.proofs.filling.put_some.Goals.{then-room-bytes, else-room-bytes}

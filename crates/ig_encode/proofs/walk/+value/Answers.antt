@@ -1,5 +1,5 @@
 -- Each row of the table, and the loops that end early.
-use Rattle.std.proofs.Common.{◌≡◌, sym, ap, ◌∙◌}
+use Rattle.std.proofs.Common.{sym, ap, ◌∙◌}
 use Rattle.ig_value.specs.declared.Code.TheVariants as code
 use Rattle.ig_value.specs.Table.{build}
 use Rattle.ig_value.specs.Canon.{Canon}

@@ -1,4 +1,3 @@
-use Rattle.std.proofs.Common.{◌≡◌, ◌*◌, ◌≤◌, length, ap, sym, ◌∙◌, arith}
 use Rattle.ig_encode.proofs.Puts.{first_passed}
 use Rattle.ig_encode.proofs.walk.put_elements.Goals as goal
 

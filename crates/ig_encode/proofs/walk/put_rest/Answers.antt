@@ -1,4 +1,4 @@
-use Rattle.std.proofs.Common.{◌≡◌, refl}
+use Rattle.std.proofs.Common.{refl}
 use Rattle.ig_encode.proofs.Puts.{first_claimed}
 use Rattle.ig_encode.proofs.walk.put_rest.Goals as goal
 

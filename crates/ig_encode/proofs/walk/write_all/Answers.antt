@@ -1,4 +1,4 @@
-use Rattle.std.proofs.Common.{◌≡◌, ◌+◌, ◌*◌, ◌≤◌, suc, length, arith}
+use Rattle.std.proofs.Common.{◌≤◌, suc, length, arith}
 use Rattle.std.proofs.Math.Nat.{mul-le-mul_right}
 use Rattle.ig_encode.proofs.Puts.{written_more}
 use Rattle.ig_encode.proofs.walk.write_all.Goals as goal

@@ -1,7 +1,7 @@
-use Rattle.std.proofs.Common.{◌≡◌, ◌*◌, List, ℕ, [], length, sym, ap, ◌∙◌, arith}
+use Rattle.std.proofs.Common.{◌≡◌, [], sym, ap, ◌∙◌, arith}
 use Rattle.std.proofs.lemmas.List.{nil_from_length}
-use Rattle.ig_encode.specs.Splice.{splice, splice_none}
-use Rattle.ig_encode.specs.Filling.{filled, filled_empty, beside}
+use Rattle.ig_encode.specs.Splice.{splice_none}
+use Rattle.ig_encode.specs.Filling.{filled_empty, beside}
 use Rattle.ig_encode.proofs.filling.PartSink.claim.Goals as goal
 
 pub returns-then-self-gt0-clause-claimed : goal.returns-then-self-gt0-clause-claimed

@@ -1,4 +1,4 @@
-use Rattle.std.proofs.Common.{◌≡◌, ◌*◌, ◌-◌, ◌≤◌, length, sym, ap, ◌∙◌, arith}
+use Rattle.std.proofs.Common.{◌-◌, sym, ap, ◌∙◌, arith}
 use Rattle.ig_encode.specs.Filling.{filled_before, beside}
 use Rattle.ig_encode.proofs.filling.PartSink.pass.Goals as goal
 
