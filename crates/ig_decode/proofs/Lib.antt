@@ -1,0 +1,4 @@
+pub mod Loop
+pub mod Texts
+pub mod Two
+pub mod Outcome

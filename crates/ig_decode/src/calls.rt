@@ -1,0 +1,69 @@
+//! The calls that read.
+
+ghost use Rattle.std.specs.Prelude.{◌≡◌, ◌↔◌, ◌≤◌, length, drop, IsTrue, IfOk};
+ghost use Rattle.ig_value.specs.Reading.{value_at};
+ghost use Rattle.ig_decode.specs.Gives.{Gives};
+ghost use Rattle.ig_decode.specs.Answers.{IsRight, FindsWhatIsSpelled, RefusesWhatStops, Reads, HasByteForEachNode, IsCanonical};
+
+use crate::answer::Decoded;
+use crate::fault::{DecodeFault, ReadError, Refusal};
+use crate::value::value_of;
+use ig_base::NoMemory;
+use ig_value::{DEEPEST, Value};
+use std::alloc::Global;
+
+/// Reads the value that a front of the bytes spells. Bytes may follow it.
+///
+/// It is `Ok` exactly where some front is a spelling, and else the refusal is the first item that is wrong, with its place.
+pub fn decode(alloc: Global, bytes: &[u8]) -> Result<Decoded, DecodeFault>
+    ensures right { IsRight bytes.now 0 result }
+    ensures found { FindsWhatIsSpelled bytes.now 0 result }
+    ensures refused { RefusesWhatStops bytes.now 0 result }
+    ensures nodes { HasByteForEachNode result }
+    ensures reads { Reads bytes.now 0 result }
+{
+    decode_at(alloc, bytes, 0)
+}
+
+/// The same from a place on, with places that count from the beginning of the bytes.
+pub fn decode_at(alloc: Global, bytes: &[u8], at: usize) -> Result<Decoded, DecodeFault>
+    requires { at ≤ length bytes.now }
+    ensures right { IsRight bytes.now at result }
+    ensures found { FindsWhatIsSpelled bytes.now at result }
+    ensures refused { RefusesWhatStops bytes.now at result }
+    ensures nodes { HasByteForEachNode result }
+    ensures reads { Reads bytes.now at result }
+{
+    match read_from(alloc, bytes, at) {
+        Ok((value, rest)) => Ok(Decoded {
+            value,
+            used: bytes.len() - at - rest.len(),
+            canonical: true,
+        }),
+        Err(ReadError::NoMemory) => Err(DecodeFault::NoMemory),
+        Err(ReadError::Fault { left, cause }) => Err(DecodeFault::Refused(Refusal {
+            place: bytes.len() - left,
+            cause,
+        })),
+    }
+}
+
+/// The value at a place, and the bytes behind it.
+fn read_from(alloc: Global, bytes: &[u8], at: usize) -> Result<(Value, &[u8]), ReadError>
+    requires { at ≤ length bytes.now }
+    ensures { Gives (λ x. (x.0, x.1.now)) result (value_at 32 (drop at bytes.now)) }
+{
+    let (_, rest) = bytes.split_at(at);
+    value_of(alloc, DEEPEST, rest)
+}
+
+/// Whether the whole of the bytes is the canonical form of a value.
+pub fn is_canonical(alloc: Global, bytes: &[u8]) -> Result<bool, NoMemory>
+    ensures { IfOk result (λ yes. IsTrue yes ↔ IsCanonical bytes.now) }
+{
+    match decode(alloc, bytes) {
+        Ok(decoded) => Ok(decoded.canonical && decoded.used == bytes.len()),
+        Err(DecodeFault::Refused(_)) => Ok(false),
+        Err(DecodeFault::NoMemory) => Err(NoMemory),
+    }
+}

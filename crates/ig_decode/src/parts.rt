@@ -1,0 +1,185 @@
+//! What stands behind a count, and the parts of more than one number.
+
+ghost use Rattle.std.specs.Prelude.{◌≡◌, ℕ, List, length};
+ghost use Rattle.ig_value.specs.Part as part;
+ghost use Rattle.ig_value.specs.Table.{byte_of};
+ghost use Rattle.ig_value.specs.Reading.{Read, count_at, counted_at, run_at, text_run_at, scalar_at, item_at, uuid_at, stamp_at, decimal_at, optional_at, many_at};
+ghost use Rattle.ig_decode.specs.Gives.{Gives};
+ghost use Rattle.ig_decode.specs.Parts.{array_at};
+
+use crate::element::{Element, element_at, elements_at, room_for};
+use crate::fault::ReadError;
+use ig_base::{Items, NodeId, Octets, Text};
+use ig_value::{Cause, Code, Dec, Stamp};
+use std::alloc::Global;
+
+/// What stands behind a code, and may be an item of an array beside null.
+pub(crate) trait Content: Drop + Sized {
+    ghost reads: { List ℕ → Read Self };
+
+    fn read(alloc: Global, bytes: &[u8]) -> Result<(Self, &[u8]), ReadError>
+        ensures { Gives (λ x. (x.0, x.1.now)) result (reads bytes.now) };
+}
+
+impl Content for i64 {
+    ghost reads = { scalar_at part.i64 };
+
+    fn read(_alloc: Global, bytes: &[u8]) -> Result<(i64, &[u8]), ReadError> {
+        element_at(bytes)
+    }
+}
+
+impl Content for Text {
+    ghost reads = { counted_at text_run_at };
+
+    fn read(alloc: Global, bytes: &[u8]) -> Result<(Text, &[u8]), ReadError> {
+        let (count, rest) = count_of(bytes)?;
+        let left = rest.len();
+        if left < count {
+            return Err(ReadError::Fault {
+                left,
+                cause: Cause::Short,
+            });
+        }
+        let (run, rest) = rest.split_at(count);
+        match simdutf8::basic::from_utf8(run) {
+            Ok(text) => Ok((Text::new(String::from_str(alloc, text)?), rest)),
+            Err(_) => Err(ReadError::Fault {
+                left,
+                cause: Cause::Utf8,
+            }),
+        }
+    }
+}
+
+impl Content for Octets {
+    ghost reads = { counted_at run_at };
+
+    fn read(alloc: Global, bytes: &[u8]) -> Result<(Octets, &[u8]), ReadError> {
+        let (count, rest) = count_of(bytes)?;
+        let left = rest.len();
+        if left < count {
+            return Err(ReadError::Fault {
+                left,
+                cause: Cause::Short,
+            });
+        }
+        let (run, rest) = rest.split_at(count);
+        Ok((Octets::new(Vec::from_slice(alloc, run)?), rest))
+    }
+}
+
+impl Content for NodeId {
+    ghost reads = { uuid_at };
+
+    fn read(_alloc: Global, bytes: &[u8]) -> Result<(NodeId, &[u8]), ReadError> {
+        let (most, rest) = element_at(bytes)?;
+        let (least, rest) = element_at(rest)?;
+        Ok((NodeId { most, least }, rest))
+    }
+}
+
+impl Content for Stamp {
+    ghost reads = { stamp_at };
+
+    fn read(_alloc: Global, bytes: &[u8]) -> Result<(Stamp, &[u8]), ReadError> {
+        let (millis, rest) = element_at(bytes)?;
+        let (nanos, rest) = element_at(rest)?;
+        Ok((Stamp { millis, nanos }, rest))
+    }
+}
+
+impl Content for Dec {
+    ghost reads = { decimal_at };
+
+    fn read(alloc: Global, bytes: &[u8]) -> Result<(Dec, &[u8]), ReadError> {
+        let (scale, rest) = element_at(bytes)?;
+        let (bytes, rest) = Octets::read(alloc, rest)?;
+        Ok((Dec { scale, bytes }, rest))
+    }
+}
+
+/// An Int32 count, which isn't below 0.
+pub(crate) fn count_of(bytes: &[u8]) -> Result<(usize, &[u8]), ReadError>
+    ensures { Gives (λ x. (x.0, x.1.now)) result (count_at bytes.now) }
+{
+    let (count, rest) = element_at::<i32>(bytes)?;
+    if count < 0 {
+        return Err(ReadError::Fault {
+            left: bytes.len(),
+            cause: Cause::Count(count),
+        });
+    }
+    Ok((count as usize, rest))
+}
+
+/// As many elements as the count before them says.
+pub(crate) fn array_of<E: Element>(
+    alloc: Global,
+    bytes: &[u8],
+) -> Result<(Items<E>, &[u8]), ReadError>
+    ensures { Gives (λ x. ((tt, x.0), x.1.now)) result (array_at (item_at E.WIDTH E.meaning) bytes.now) }
+{
+    let (count, rest) = count_of(bytes)?;
+    elements_at(alloc, count, rest)
+}
+
+/// Null, or the content behind its code.
+fn optional_of<C: Content>(
+    alloc: Global,
+    code: Code,
+    bytes: &[u8],
+) -> Result<(Option<C>, &[u8]), ReadError>
+    ensures { Gives (λ x. (x.0, x.1.now)) result (optional_at (byte_of code) C.reads bytes.now) }
+{
+    match bytes.split_first() {
+        None => Err(ReadError::Fault {
+            left: 0,
+            cause: Cause::Short,
+        }),
+        Some((byte, rest)) => {
+            if *byte == Code::Null.byte() {
+                Ok((None, rest))
+            } else if *byte == code.byte() {
+                let (content, rest) = C::read(alloc, rest)?;
+                Ok((Some(content), rest))
+            } else {
+                Err(ReadError::Fault {
+                    left: bytes.len(),
+                    cause: Cause::Code(*byte),
+                })
+            }
+        }
+    }
+}
+
+/// As many of them as the count says, one after the other.
+fn optionals_at<C: Content>(
+    alloc: Global,
+    code: Code,
+    count: usize,
+    bytes: &[u8],
+) -> Result<(Items<Option<C>>, &[u8]), ReadError>
+    ensures { Gives (λ x. (x.0, x.1.now)) result (many_at (optional_at (byte_of code) C.reads) count bytes.now) }
+{
+    let mut items = room_for(alloc, count, bytes)?;
+    let mut rest = bytes;
+    for _ in 0..count {
+        let (item, after) = optional_of(alloc, code, rest)?;
+        items.push(item)?;
+        rest = after;
+    }
+    Ok((Items::new(items), rest))
+}
+
+/// As many of them as the count before them says.
+pub(crate) fn optionals_of<C: Content>(
+    alloc: Global,
+    code: Code,
+    bytes: &[u8],
+) -> Result<(Items<Option<C>>, &[u8]), ReadError>
+    ensures { Gives (λ x. ((tt, x.0), x.1.now)) result (array_at (optional_at (byte_of code) C.reads) bytes.now) }
+{
+    let (count, rest) = count_of(bytes)?;
+    optionals_at(alloc, code, count, rest)
+}

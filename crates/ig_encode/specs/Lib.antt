@@ -1,0 +1,6 @@
+pub mod Splice
+pub mod Counting
+pub mod Filling
+pub mod Widths
+pub mod Lists
+pub mod RoundTrip

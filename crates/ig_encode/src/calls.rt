@@ -1,0 +1,81 @@
+//! The calls that write.
+
+ghost use Rattle.std.specs.Prelude.{◌≡◌, ◌-◌, ◌+◌, ◌^◌, ◌≤◌, ◌++◌, min, length, take, drop, replicate, OnOk, OnErr};
+ghost use Rattle.ig_value.specs.Canon.{Canon, IsSendable};
+ghost use Rattle.ig_encode.specs.RoundTrip.{CanonIsRead, DecodedAgain};
+
+use crate::length::Length;
+use crate::part::Part;
+use crate::walk::put_value;
+use ig_base::{NoMemory, Octets};
+use ig_value::Value;
+use std::alloc::Global;
+use std::mem;
+
+/// How many bytes the canonical form has; `u128::MAX` where it has more. Takes no memory.
+pub fn canonical_len(value: &Value) -> u128
+    ensures { result ≡ min (length (Canon value.now)) (2 ^ 128 - 1) }
+{
+    let mut count = Length::new();
+    let mut none = [0u8; 0];
+    put_value(value, &mut count, &mut none);
+    count.bytes
+}
+
+/// Fills the slice with the canonical form from a place on, and answers how many bytes it filled: the slice's length, or
+/// what is left of the form, whichever is less. Takes no memory.
+pub fn encode_part(value: &Value, from: u64, into: &mut [u8]) -> usize
+    ensures count { result ≡ min (length into.old) (length (Canon value.now) - from) }
+    ensures bytes { into.new ≡ take result (drop from (Canon value.now)) ++ drop result into.old }
+{
+    let mut part = Part {
+        skip: from,
+        filled: 0,
+    };
+    put_value(value, &mut part, into);
+    part.filled
+}
+
+/// Appends the canonical form. It takes its room first, so an error leaves the bytes as they were.
+pub fn encode(alloc: Global, value: &Value, out: &mut Octets) -> Result<(), NoMemory>
+    requires { IsSendable value.now }
+    ensures ok { OnOk result (out.new ≡ out.old ++ Canon value.now) }
+    ensures err { OnErr result (out.new ≡ out.old) }
+{
+    let more = canonical_len(value) as usize;
+    let mut bytes = mem::replace(out, Octets::empty(alloc)).into_std();
+    let start = bytes.len();
+    let grown = grow(&mut bytes, more);
+    if grown.is_ok() {
+        fill(value, start, &mut bytes);
+    }
+    *out = Octets::new(bytes);
+    grown
+}
+
+/// Makes room for so many more bytes, which are 0.
+fn grow(bytes: &mut Vec<u8>, more: usize) -> Result<(), NoMemory>
+    ensures ok { OnOk result (bytes.new.items ≡ bytes.old.items ++ replicate more 0) }
+    ensures err { OnErr result (bytes.new.items ≡ bytes.old.items) }
+{
+    let Some(len) = bytes.len().checked_add(more) else {
+        return Err(NoMemory);
+    };
+    bytes.resize(len, 0)?;
+    Ok(())
+}
+
+/// Writes the canonical form over the bytes from a place on.
+fn fill(value: &Value, start: usize, bytes: &mut Vec<u8>)
+    requires { start + length (Canon value.now) ≡ length bytes.old.items }
+    ensures { bytes.new.items ≡ take start bytes.old.items ++ Canon value.now }
+{
+    let (_, room) = bytes.as_mut_slice().split_at_mut(start);
+    encode_part(value, 0, room);
+}
+
+/// What is written is read again, whatever follows it.
+pub fn round_trip()
+    ensures read { CanonIsRead }
+    ensures decoded { DecodedAgain }
+{}

@@ -1,0 +1,37 @@
+//! Where the bytes of a value go.
+
+ghost use Rattle.std.specs.Prelude.{◌≡◌, ◌+◌, ◌*◌, ◌<◌, ◌≤◌, List, [], ◌++◌, ℕ, length, IsTrue};
+ghost use Rattle.ig_encode.specs.Splice.{splice};
+
+/// What takes the bytes of a value in their order, and may put some of them into a slice.
+pub(crate) trait Sink {
+    /// The sink and the slice after more bytes.
+    ghost after: { Self → List ℕ → List ℕ → Self × List ℕ };
+
+    /// Takes the next bytes.
+    fn put(&mut self, into: &mut [u8], bytes: &[u8])
+        ensures { (self.new, into.new) ≡ after self.old into.old bytes.now };
+
+    /// Takes the bytes of the first of so many items, each of this width, without looking at them. Answers how many items
+    /// these are.
+    fn pass(&mut self, into: &[u8], width: usize, count: usize) -> usize
+        requires { 0 < width }
+        ensures within { result ≤ count }
+        ensures passed { (bytes : List ℕ) → length bytes ≡ result * width → (self.new, into.now) ≡ after self.old into.now bytes };
+
+    /// Takes the bytes of so many of the next items, each of this width, whose bytes the caller puts into the slice itself.
+    /// Answers where they go, and how many items these are.
+    fn claim(&mut self, room: usize, width: usize, count: usize) -> (usize, usize)
+        requires { 0 < width }
+        ensures within { result.1 ≤ count }
+        ensures fits { result.0 + result.1 * width ≤ room }
+        ensures claimed { (into bytes : List ℕ) → length into ≡ room → length bytes ≡ result.1 * width → after self.old into bytes ≡ (self.new, splice into result.0 bytes) };
+
+    /// Whether no further byte changes anything.
+    fn is_full(&self, into: &[u8]) -> bool
+        ensures { IsTrue result → (bytes : List ℕ) → after self.now into.now bytes ≡ (self.now, into.now) };
+
+    ghost empty: { (s : Self) (into : List ℕ) → after s into [] ≡ (s, into) };
+
+    ghost longer: { (s : Self) (into p q : List ℕ) → after s into (p ++ q) ≡ after (after s into p).0 (after s into p).1 q };
+}

@@ -1,0 +1,287 @@
+//! Values, whatever stands inside them.
+
+ghost use Rattle.std.specs.Prelude.{◌≡◌, ◌+◌, ◌*◌, ◌≤◌, ◌∷◌, ◌++◌, [], pos, length};
+ghost use Rattle.std.specs.Int.{w8, w32};
+ghost use Rattle.std.specs.List.{flat_map};
+ghost use Rattle.ig_base.specs.Numbers.{LE};
+ghost use Rattle.ig_value.specs.Table.{byte_of};
+ghost use Rattle.ig_value.specs.Canon.{Canon, optional_bytes};
+ghost use Rattle.ig_encode.specs.Splice.{splice};
+ghost use Rattle.ig_encode.specs.Lists.{array_bytes, kinded_bytes, pair_bytes};
+
+use crate::sink::Sink;
+use crate::spell::{Element, Spell, put_count};
+use ig_value::{Code, Value};
+
+/// Puts the canonical form of the value.
+#[cycle(value)]
+pub(crate) fn put_value<S: Sink>(value: &Value, out: &mut S, into: &mut [u8])
+    ensures { (out.new, into.new) ≡ S.after out.old into.old (Canon value.now) }
+{
+    match value {
+        Value::Byte(x) => put_row(Code::Byte, x, out, into),
+        Value::Short(x) => put_row(Code::Short, x, out, into),
+        Value::Int(x) => put_row(Code::Int, x, out, into),
+        Value::Long(x) => put_row(Code::Long, x, out, into),
+        Value::Float(x) => put_row(Code::Float, x, out, into),
+        Value::Double(x) => put_row(Code::Double, x, out, into),
+        Value::Char(x) => put_row(Code::Char, x, out, into),
+        Value::Bool(x) => put_row(Code::Bool, x, out, into),
+        Value::Str(x) => put_row(Code::Str, x, out, into),
+        Value::Uuid(x) => put_row(Code::Uuid, x, out, into),
+        Value::Date(x) => put_row(Code::Date, x, out, into),
+        Value::Bytes(xs) => put_array(Code::Bytes, xs.as_slice(), out, into),
+        Value::Shorts(xs) => put_array(Code::Shorts, xs.as_slice(), out, into),
+        Value::Ints(xs) => put_array(Code::Ints, xs.as_slice(), out, into),
+        Value::Longs(xs) => put_array(Code::Longs, xs.as_slice(), out, into),
+        Value::Floats(xs) => put_array(Code::Floats, xs.as_slice(), out, into),
+        Value::Doubles(xs) => put_array(Code::Doubles, xs.as_slice(), out, into),
+        Value::Chars(xs) => put_array(Code::Chars, xs.as_slice(), out, into),
+        Value::Bools(xs) => put_array(Code::Bools, xs.as_slice(), out, into),
+        Value::Strs(xs) => put_optionals(Code::Strs, Code::Str, xs.as_slice(), out, into),
+        Value::Uuids(xs) => put_optionals(Code::Uuids, Code::Uuid, xs.as_slice(), out, into),
+        Value::Dates(xs) => put_optionals(Code::Dates, Code::Date, xs.as_slice(), out, into),
+        Value::Objects { type_id, items } => put_typed(
+            Code::Objects,
+            type_id,
+            items.as_slice(),
+            out,
+            into,
+        ),
+        Value::Collection { kind, items } => put_collection(
+            Code::Collection,
+            kind,
+            items.as_slice(),
+            out,
+            into,
+        ),
+        Value::Map { kind, pairs } => put_map(Code::Map, kind, pairs.as_slice(), out, into),
+        Value::Wrapped { bytes, offset } => put_both(Code::Wrapped, bytes, offset, out, into),
+        Value::Enum { type_id, ordinal } => put_both(Code::Enum, type_id, ordinal, out, into),
+        Value::Enums { type_id, items } => put_typed(
+            Code::Enums,
+            type_id,
+            items.as_slice(),
+            out,
+            into,
+        ),
+        Value::Decimal(x) => put_row(Code::Decimal, x, out, into),
+        Value::Decimals(xs) => put_optionals(
+            Code::Decimals,
+            Code::Decimal,
+            xs.as_slice(),
+            out,
+            into,
+        ),
+        Value::Timestamp(x) => put_row(Code::Timestamp, x, out, into),
+        Value::Timestamps(xs) => put_optionals(
+            Code::Timestamps,
+            Code::Timestamp,
+            xs.as_slice(),
+            out,
+            into,
+        ),
+        Value::Time(x) => put_row(Code::Time, x, out, into),
+        Value::Times(xs) => put_optionals(Code::Times, Code::Time, xs.as_slice(), out, into),
+        Value::BinaryEnum { type_id, ordinal } => put_both(
+            Code::BinaryEnum,
+            type_id,
+            ordinal,
+            out,
+            into,
+        ),
+        Value::Null => put_code(Code::Null, out, into),
+    }
+}
+
+/// Puts a code.
+#[inline(always)]
+fn put_code<S: Sink>(code: Code, out: &mut S, into: &mut [u8])
+    ensures { (out.new, into.new) ≡ S.after out.old into.old (byte_of code ∷ []) }
+{
+    out.put(into, &[code.byte()]);
+}
+
+/// Puts a code, and a part behind it.
+#[inline(never)]
+fn put_row<T: Spell, S: Sink>(code: Code, part: &T, out: &mut S, into: &mut [u8])
+    ensures { (out.new, into.new) ≡ S.after out.old into.old (byte_of code ∷ T.bytes part.now) }
+{
+    put_code(code, out, into);
+    part.put(out, into);
+}
+
+/// Puts a code, and two parts behind it.
+#[inline(never)]
+fn put_both<T: Spell, U: Spell, S: Sink>(
+    code: Code,
+    first: &T,
+    second: &U,
+    out: &mut S,
+    into: &mut [u8],
+)
+    ensures { (out.new, into.new) ≡ S.after out.old into.old (byte_of code ∷ (T.bytes first.now ++ U.bytes second.now)) }
+{
+    put_code(code, out, into);
+    first.put(out, into);
+    second.put(out, into);
+}
+
+/// Puts a code, and an array of elements behind it.
+#[inline(never)]
+fn put_array<E: Element, S: Sink>(code: Code, elements: &[E], out: &mut S, into: &mut [u8])
+    ensures { (out.new, into.new) ≡ S.after out.old into.old (byte_of code ∷ array_bytes E.Spell.bytes elements.now) }
+{
+    put_code(code, out, into);
+    put_count(elements.len(), out, into);
+    put_elements(elements, out, into);
+}
+
+/// Puts elements, one after the other. Those that come before the place aren't looked at.
+fn put_elements<E: Element, S: Sink>(elements: &[E], out: &mut S, into: &mut [u8])
+    ensures { (out.new, into.new) ≡ S.after out.old into.old (flat_map E.Spell.bytes elements.now) }
+{
+    let passed = out.pass(into, E::width(), elements.len());
+    let (_, rest) = elements.split_at(passed);
+    put_rest(rest, out, into);
+}
+
+/// The same of elements of which none comes before the place as a whole.
+fn put_rest<E: Element, S: Sink>(elements: &[E], out: &mut S, into: &mut [u8])
+    ensures { (out.new, into.new) ≡ S.after out.old into.old (flat_map E.Spell.bytes elements.now) }
+{
+    let (at, whole) = out.claim(into.len(), E::width(), elements.len());
+    let (front, rest) = elements.split_at(whole);
+    write_all(front, into, at);
+    put_parts(rest, out, into);
+}
+
+/// Writes elements at a place, one after the other.
+fn write_all<E: Element>(elements: &[E], into: &mut [u8], at: usize)
+    requires { at + length elements.now * E.byte_count ≤ length into.old }
+    ensures { into.new ≡ splice into.old at (flat_map E.Spell.bytes elements.now) }
+{
+    let width = E::width();
+    let mut place = at;
+    for element in elements {
+        element.write_at(into, place);
+        place += width;
+    }
+}
+
+/// Puts parts, one after the other.
+fn put_parts<T: Spell, S: Sink>(parts: &[T], out: &mut S, into: &mut [u8])
+    ensures { (out.new, into.new) ≡ S.after out.old into.old (flat_map T.bytes parts.now) }
+{
+    for part in parts {
+        if out.is_full(into) {
+            return;
+        }
+        part.put(out, into);
+    }
+}
+
+/// Puts a code, and an array of parts or nulls behind it. A part stands behind its own code.
+#[inline(never)]
+fn put_optionals<T: Spell, S: Sink>(
+    code: Code,
+    inner: Code,
+    parts: &[Option<T>],
+    out: &mut S,
+    into: &mut [u8],
+)
+    ensures { (out.new, into.new) ≡ S.after out.old into.old (byte_of code ∷ array_bytes (optional_bytes (byte_of inner) T.bytes) parts.now) }
+{
+    put_code(code, out, into);
+    put_count(parts.len(), out, into);
+    put_each_optional(inner, parts, out, into);
+}
+
+/// Puts nulls and parts, one after the other.
+fn put_each_optional<T: Spell, S: Sink>(
+    inner: Code,
+    parts: &[Option<T>],
+    out: &mut S,
+    into: &mut [u8],
+)
+    ensures { (out.new, into.new) ≡ S.after out.old into.old (flat_map (optional_bytes (byte_of inner) T.bytes) parts.now) }
+{
+    for part in parts {
+        if out.is_full(into) {
+            return;
+        }
+        put_optional(inner, part, out, into);
+    }
+}
+
+/// Puts null, or a part behind its code.
+fn put_optional<T: Spell, S: Sink>(code: Code, part: &Option<T>, out: &mut S, into: &mut [u8])
+    ensures { (out.new, into.new) ≡ S.after out.old into.old (optional_bytes (byte_of code) T.bytes part.now) }
+{
+    match part {
+        None => put_code(Code::Null, out, into),
+        Some(part) => put_row(code, part, out, into),
+    }
+}
+
+/// Puts a code, a type, and an array of values behind it.
+#[cycle(value)]
+#[inline(never)]
+fn put_typed<S: Sink>(code: Code, type_id: &i32, values: &[Value], out: &mut S, into: &mut [u8])
+    ensures { (out.new, into.new) ≡ S.after out.old into.old (byte_of code ∷ (LE w32 type_id.now ++ array_bytes Canon values.now)) }
+{
+    put_row(code, type_id, out, into);
+    put_count(values.len(), out, into);
+    put_values(values, out, into);
+}
+
+/// Puts a code, a count, a kind, and values behind it.
+#[cycle(value)]
+#[inline(never)]
+fn put_collection<S: Sink>(code: Code, kind: &i8, values: &[Value], out: &mut S, into: &mut [u8])
+    ensures { (out.new, into.new) ≡ S.after out.old into.old (byte_of code ∷ kinded_bytes Canon kind.now values.now) }
+{
+    put_code(code, out, into);
+    put_count(values.len(), out, into);
+    kind.put(out, into);
+    put_values(values, out, into);
+}
+
+/// Puts a code, a count, a kind, and pairs of values behind it.
+#[cycle(value)]
+#[inline(never)]
+fn put_map<S: Sink>(code: Code, kind: &i8, pairs: &[(Value, Value)], out: &mut S, into: &mut [u8])
+    ensures { (out.new, into.new) ≡ S.after out.old into.old (byte_of code ∷ kinded_bytes pair_bytes kind.now pairs.now) }
+{
+    put_code(code, out, into);
+    put_count(pairs.len(), out, into);
+    kind.put(out, into);
+    put_pairs(pairs, out, into);
+}
+
+/// Puts values, one after the other.
+#[cycle(value)]
+fn put_values<S: Sink>(values: &[Value], out: &mut S, into: &mut [u8])
+    ensures { (out.new, into.new) ≡ S.after out.old into.old (flat_map Canon values.now) }
+{
+    for value in values {
+        if out.is_full(into) {
+            return;
+        }
+        put_value(value, out, into);
+    }
+}
+
+/// Puts pairs of values, one after the other.
+#[cycle(value)]
+fn put_pairs<S: Sink>(pairs: &[(Value, Value)], out: &mut S, into: &mut [u8])
+    ensures { (out.new, into.new) ≡ S.after out.old into.old (flat_map pair_bytes pairs.now) }
+{
+    for (key, value) in pairs {
+        if out.is_full(into) {
+            return;
+        }
+        put_value(key, out, into);
+        put_value(value, out, into);
+    }
+}

@@ -1,0 +1,11 @@
+pub mod Agrees
+pub mod Items
+pub mod Scalars
+pub mod Counts
+pub mod Parts
+pub mod Rows
+pub mod Values
+pub mod Folds
+pub mod Spelled
+pub mod Depths
+pub mod Public

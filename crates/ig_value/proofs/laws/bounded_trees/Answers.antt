@@ -1,0 +1,5 @@
+use Rattle.ig_value.proofs.Public.{byte_for_each_node, fits_is_shallow, fits_at_its_depth}
+use Rattle.ig_value.proofs.laws.bounded_trees.Goals as goal
+
+pub returns : goal.returns
+returns c = record { nodes = byte_for_each_node; shallow = fits_is_shallow; own_depth = fits_at_its_depth }
