@@ -1,7 +1,7 @@
 -- Reading the fields of a request.
-use Rattle.std.proofs.Common.{◌≡◌, ℕ, suc, ℤ, ◌+◌, ◌-◌, ◌<◌, ◌≤◌, List, [], ◌∷◌, length, take, drop, Ok, Err, None, Some, refl, sym, ap, ◌∙◌, subst, arith, length-drop, length-take}
+use Rattle.std.proofs.Common.{◌≡◌, ℕ, suc, ℤ, ◌-◌, ◌<◌, ◌≤◌, List, [], ◌∷◌, length, take, drop, Ok, Err, None, Some, refl, sym, ap, ◌∙◌, subst, arith, length-drop, length-take}
 use Rattle.std.proofs.lemmas.List.{drop-drop}
-use Rattle.std.proofs.lemmas.Bool.{cond-true, cond-false, le-ltb, lt-ltb}
+use Rattle.std.proofs.lemmas.Bool.{cond-false, le-ltb}
 use Rattle.std.specs.Prelude.{nat_lt}
 use Rattle.std.specs.Int.{w8, w32, cast_signed, from_le_bytes}
 use Rattle.ig_base.specs.Numbers.{number_at}
@@ -10,7 +10,7 @@ use Rattle.ig_value.specs.declared.cause.Cause.{Cause}
 use Rattle.ig_value.specs.declared.cause.Cause.TheVariants.{Short}
 use Rattle.ig_value.specs.declared.value.Value.{Value}
 use Rattle.ig_value.specs.Part.{i8, i32}
-use Rattle.ig_value.specs.Canon.{Canon, IsSendable}
+use Rattle.ig_value.specs.Canon.{IsSendable}
 use Rattle.ig_value.specs.Spells.{Spells}
 use Rattle.ig_value.specs.Stops.{Stops}
 use Rattle.ig_value.specs.Reading.{Read, scalar_at, scalar_of, both_at, reading}

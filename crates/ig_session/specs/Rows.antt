@@ -1,5 +1,5 @@
 -- Rows as they are kept: values by the canonical forms of their keys.
-use Rattle.std.specs.Prelude.{ℕ, List, map, Result, Ok, Err}
+use Rattle.std.specs.Prelude.{ℕ, List, map, Ok, Err}
 use Rattle.std.specs.FinMap as finite
 use Rattle.ig_value.specs.Reading.{Read, reading}
 use Rattle.ig_value.specs.declared.value.Value.{Value}

@@ -82,11 +82,7 @@ pub struct Caches {
 }
 
 /// The value of the key with this canonical form, null where there is none.
-fn value_of(
-    alloc: Global,
-    rows: &BTreeMap<Vec<u8>, Value>,
-    form: &[u8],
-) -> Result<Value, NoMemory>
+fn value_of(alloc: Global, rows: &BTreeMap<Vec<u8>, Value>, form: &[u8]) -> Result<Value, NoMemory>
     ensures { IfOk result (λ value. (key : Value) → form.now ≡ Canon key → value ≡ value_in (rows_of (λ k. k.items) rows.now.entries) key) }
 {
     match rows.get(form) {

@@ -46,12 +46,7 @@ fn least_len(is_open: bool) -> usize
 }
 
 /// Appends the reply to a request that is refused.
-fn put_refusal(
-    alloc: Global,
-    out: &mut Octets,
-    id: i64,
-    refusal: Refusal,
-) -> Result<(), NoMemory>
+fn put_refusal(alloc: Global, out: &mut Octets, id: i64, refusal: Refusal) -> Result<(), NoMemory>
     ensures { OnOk result (out.new ≡ out.old ++ reply_frame id (refused refusal)) }
 {
     match refusal {

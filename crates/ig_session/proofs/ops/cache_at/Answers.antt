@@ -1,8 +1,7 @@
-use Rattle.std.proofs.Common.{◌≡◌, ℤ, Ok, drop, sym, ap, subst, ◌∙◌, FitsSigned, rules}
+use Rattle.std.proofs.Common.{ℤ, Ok, drop, sym, ap, ◌∙◌, FitsSigned, rules}
 use Rattle.std.proofs.lemmas.Int.{to_z-of_z}
 use Rattle.std.specs.Int.{w32}
-use Rattle.ig_session.specs.Requests.{cache_at}
-use Rattle.ig_session.proofs.FieldLemmas.{cache_read, id_cut, flags_cut}
+use Rattle.ig_session.proofs.FieldLemmas.{cache_read}
 use Rattle.ig_session.proofs.ops.cache_at.Goals as goal
 
 pub returns-in-Some-2 : goal.returns-in-Some-2
