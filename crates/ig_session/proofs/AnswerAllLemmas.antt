@@ -1,5 +1,5 @@
 -- Answering all whole frames.
-use Rattle.std.proofs.Common.{◌≡◌, ℕ, ◌+◌, ◌-◌, ◌<◌, Bool, true, false, List, [], ◌++◌, ℤ, length, length-append, take, Result, Ok, Err, refl, sym, ap, ◌∙◌, subst, arith, append_assoc, append-nil}
+use Rattle.std.proofs.Common.{◌≡◌, ◌⊎◌, inl, inr, ℕ, ◌+◌, ◌-◌, ◌<◌, Bool, true, false, List, [], ◌++◌, ℤ, length, length-append, take, Result, Ok, Err, refl, sym, ap, ◌∙◌, subst, arith, append_assoc, append-nil}
 use Rattle.std.proofs.lemmas.Grind.{flat_map-append}
 use Rattle.std.proofs.lemmas.List.{length-drop}
 use Rattle.ig_base.proofs.FrameLemmas.{front-inside}
@@ -24,7 +24,7 @@ use Rattle.ig_session.specs.declared.session.Step.TheVariants as steps
 use Rattle.ig_session.specs.declared.end.SessionEnd.{SessionEnd}
 use Rattle.ig_session.specs.declared.end.SessionEnd.TheVariants as ends
 use Rattle.ig_session.proofs.AnswerLemmas.{stands_still}
-use Rattle.ig_session.proofs.ServeLemmas.{goes_on, cut_off, refuses, ends_whole, goes, least_same}
+use Rattle.ig_session.proofs.ServeLemmas.{goes_on, cut_off, refuses, ends_whole, all_shown, goes, least_same}
 
 pub entries-append : (seat : ℕ) (xs ys : List Ran) → entries_of seat (xs ++ ys) ≡ entries_of seat xs ++ entries_of seat ys
 entries-append seat xs ys = flat_map-append (λ (r : Ran). entry_of seat r.call r.got) xs ys
@@ -175,7 +175,17 @@ module _ {C : Type 0} (stands : C → Plain → List Entry → Type 0) (seat : �
   since_refused_fault a b c first old new after s0 s1 s2 taken sent why since st fault =
       faulted a b c first old new after s0 s1 s2 taken sent (Ok (steps.Refused why)) st.step.0 new.frames new.reply since st st.step.1 fault
 
-  -- there was no memory for a reply
+  -- there was no memory for a request, or for a reply
+  none_told : (old : Session) (input output more : List ℕ) (results xs ys : List Ran) → Stands old input (output ++ more) (results ++ xs) → (ys ≡ []) ⊎ ((body after frame : List ℕ) × ReadsBody old body after ys frame)
+      → Runs input (output ++ more) (results ++ (xs ++ ys)) ends.NoMemory
+  none_told old input output more results xs ys s (inl none) =
+      let same : results ++ xs ≡ results ++ (xs ++ ys) = ap (λ (l : List Ran). results ++ l) (sym (ap (λ l. xs ++ l) none ∙ append-nil xs)) in
+      subst (λ (l : List Ran). Runs input (output ++ more) l ends.NoMemory) same (ends_whole old ends.NoMemory input (output ++ more) (results ++ xs) s tt all_shown)
+  none_told old input output more results xs ys s (inr read) =
+      subst (λ (l : List ℕ). Runs input (output ++ l) (results ++ (xs ++ ys)) ends.NoMemory) (append-nil more)
+      (regrouped input output more [] results xs ys ends.NoMemory
+      (cut_off old ends.NoMemory input (output ++ more) (results ++ xs) ys read.0 read.1 read.2 0 s read.3 (λ fs o p. p) (λ i bs a. tt)))
+
   pub since_none : (a b c : C) (first old new after : Session) (s0 s1 : SinkState) (taken : ℕ) (e : NoMemory) → Since stands seat a b first old s0 s1 → Steps stands seat b c old new (Err e)
       → AnswersAll stands seat a c first after s0 s1 taken (Err ends.NoMemory)
   since_none a b c first old new after s0 s1 taken e since st = record {
@@ -184,10 +194,7 @@ module _ {C : Type 0} (stands : C → Plain → List Entry → Type 0) (seat : �
     keeps = all_kept a b c first old new s0 s1 (Err e) since st;
     gets = since.gets;
     cause = tt;
-    story = λ input output results counts s.
-        subst (λ (l : List ℕ). Runs input (output ++ l) (results ++ (since.ran ++ st.ran)) ends.NoMemory) (append-nil since.out)
-        (regrouped input output since.out [] results since.ran st.ran ends.NoMemory
-        (cut_off old ends.NoMemory input (output ++ since.out) (results ++ since.ran) st.ran st.step.0 st.step.1 st.step.2 0 (since.story input output results s) st.step.3 (λ fs o p. p) (λ i bs a. tt)));
+    story = λ input output results counts s. none_told old input output since.out results since.ran st.ran (since.story input output results s) st.step;
   }
 
 pub at_step : {C : Type 0} (stands : C → Plain → List Entry → Type 0) (seat seat' : ℕ) (caller caller' : C) (old new : Session) (step step' : Step) → seat ≡ seat' → step ≡ step'

@@ -1,4 +1,5 @@
 pub mod RowLemmas
+pub mod FieldLemmas
 pub mod ReplyLemmas
 pub mod HistoryLemmas
 pub mod LookLemmas

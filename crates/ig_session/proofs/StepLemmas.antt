@@ -1,5 +1,5 @@
 -- The steps of a session.
-use Rattle.std.proofs.Common.{◌≡◌, ℕ, Bool, true, false, List, [], ◌∷◌, ◌++◌, Result, Ok, Err, OnOk, refl, sym, ap, ◌∙◌, subst}
+use Rattle.std.proofs.Common.{◌≡◌, ℕ, Bool, true, false, List, [], ◌∷◌, ◌++◌, Result, Ok, Err, OnOk, refl, sym, ap, ◌∙◌, subst, inl, inr}
 use Rattle.ig_base.specs.declared.memory.NoMemory.{NoMemory}
 use Rattle.ig_base.specs.Frames as frames
 use Rattle.ig_session.specs.Caches.{Plain}
@@ -46,7 +46,7 @@ module _ {C : Type 0} (stands : C → Plain → List Entry → Type 0) (seat : �
   open_err asked result e was found is a = record {
     ran = a.ran;
     keeps = a.keeps;
-    step = (body, new.frames, a.frame, open_reads asked result a.frame was found is a refl);
+    step = inr (body, new.frames, a.frame, open_reads asked result a.frame was found is a refl);
   }
 
 module _ {C : Type 0} (stands : C → Plain → List Entry → Type 0) (seat : ℕ) (caller : C) (old new : Session) (body : List ℕ) where
@@ -70,9 +70,13 @@ module _ {C : Type 0} (stands : C → Plain → List Entry → Type 0) (seat : �
     step = (body, hello_reads new.reply was found told, was, other, is);
   }
 
+  -- nothing was read
+  pub read_none : (e : NoMemory) → Steps stands seat caller caller old new (Err e)
+  read_none e = record { ran = []; keeps = stands_still stands caller; step = inl refl }
+
   pub hello_err : (e : NoMemory) → old.is_open ≡ false → frames.front (least_of old.is_open) old.frames ≡ frames.Body body new.frames → Steps stands seat caller caller old new (Err e)
   hello_err e was found = record {
     ran = [];
     keeps = stands_still stands caller;
-    step = (body, new.frames, hello_frame body, hello_reads (hello_frame body) was found refl);
+    step = inr (body, new.frames, hello_frame body, hello_reads (hello_frame body) was found refl);
   }

@@ -5,9 +5,10 @@ use Rattle.std.specs.Cmp.Lexicographic.{slice_cmp}
 use Rattle.std.specs.FinMap as finite
 use Rattle.std.specs.Int.{w32, cast_signed}
 use Rattle.ig_base.specs.Hashes.{Java, units}
-use Rattle.ig_session.specs.Values.{spelling}
-use Rattle.ig_session.specs.declared.value.Value.{Value}
-use Rattle.ig_session.specs.declared.value.Value.TheVariants.{Null}
+use Rattle.ig_value.specs.declared.value.Value.{Value}
+use Rattle.ig_value.specs.declared.value.Value.TheVariants.{Null}
+use Rattle.ig_value.specs.Canon.{Canon, IsSendable}
+use Rattle.ig_value.specs.Limits.{Fits}
 use Rattle.ig_session.specs.declared.caches.Call.{Call}
 use Rattle.ig_session.specs.declared.caches.Call.TheVariants.{Get, Put}
 use Rattle.ig_session.specs.declared.caches.Why.TheVariants.{NoCache}
@@ -15,7 +16,7 @@ use Rattle.ig_session.specs.declared.caches.Outcome.{Outcome}
 use Rattle.ig_session.specs.declared.caches.Outcome.TheVariants.{Done, Found, Refused}
 use Rattle.ig_session.specs.declared.caches.Answer.{Answer}
 
--- keys by their spelling, each with the key and its value
+-- rows by the canonical forms of their keys, each with the key and its value
 abbrev pub Rows : Type 0
 Rows = finite.FinMap (slice_cmp nat_cmp) (Value × Value)
 
@@ -49,11 +50,11 @@ held None = Null
 held (Some row) = row.1
 
 abbrev pub value_in : Rows → Value → Value
-value_in rows key = held (finite.get rows (spelling key))
+value_in rows key = held (finite.get rows (Canon key))
 
 -- the rows with this value for this key, and every other row as it was
 abbrev pub with_row : Rows → Value → Value → Rows
-with_row rows key value = finite.insert rows (spelling key) (key, value)
+with_row rows key value = finite.insert rows (Canon key) (key, value)
 
 -- the caches where a row was put into the one with an identifier
 abbrev pub with_put : ℤ → Value → Value → List Cache → List Cache
@@ -84,10 +85,15 @@ abbrev pub after : Plain → Call → Plain
 after caches (Get id key) = caches
 after caches (Put id key value) = record { caches = with_put id key value caches.caches; minor = caches.minor }
 
--- no key and no value is null
+-- what may stand as a key or as a value: not null, within the limits, and of a canonical form whose length is an Int32
+pub record IsItem (v : Value) : Type 0 where
+  pub there : v ≢ Null
+  pub fits : Fits v
+  pub sendable : IsSendable v
+
 abbrev pub IsSound : Call → Type 0
-IsSound (Get id key) = key ≢ Null
-IsSound (Put id key value) = (key ≢ Null) × (value ≢ Null)
+IsSound (Get id key) = IsItem key
+IsSound (Put id key value) = IsItem key × IsItem value
 
 -- the answer is of the kind that the call has, or a refusal
 abbrev pub FitsOutcome : Call → Outcome → Type 0
@@ -95,4 +101,4 @@ FitsOutcome call (Refused why) = Unit {0}
 FitsOutcome (Get id key) (Found value) = Unit {0}
 FitsOutcome (Get id key) Done = ⊥
 FitsOutcome (Put id key value) Done = Unit {0}
-FitsOutcome (Put id key value) (Found held) = ⊥
+FitsOutcome (Put id key value) (Found found) = ⊥

@@ -1,9 +1,9 @@
-pub mod Values
 pub mod Caches
-pub mod RowList
+pub mod Rows
 pub mod Kept
 pub mod Hellos
 pub mod Requests
+pub mod Fields
 pub mod Replies
 pub mod Histories
 pub mod Deals

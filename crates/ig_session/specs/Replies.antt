@@ -1,15 +1,16 @@
 -- The replies to requests.
-use Rattle.std.specs.Prelude.{ℕ, ℤ, pos, List, [], ◌++◌, codes}
+use Rattle.std.specs.Prelude.{ℕ, ℤ, pos, List, [], ◌++◌, length, nat_le, codes, if◌then◌else◌}
+use Rattle.std.specs.Fmt.{decimal}
 use Rattle.std.specs.Int.{w32, w64}
 use Rattle.ig_base.specs.Numbers.{LE}
-use Rattle.ig_base.specs.Frames.{Frame}
-use Rattle.ig_session.specs.Values.{spelling}
+use Rattle.ig_base.specs.Frames.{Frame, max_body}
+use Rattle.ig_value.specs.Canon.{Canon}
 use Rattle.ig_session.specs.Hellos.{string}
 use Rattle.ig_session.specs.declared.caches.Why.TheVariants.{NoCache}
 use Rattle.ig_session.specs.declared.caches.Outcome.{Outcome}
 use Rattle.ig_session.specs.declared.caches.Outcome.TheVariants.{Done, Found, Refused}
 use Rattle.ig_session.specs.declared.ops.Refusal.{Refusal}
-use Rattle.ig_session.specs.declared.ops.Refusal.TheVariants.{InvalidOperation, NotBuilt, NullKeyOrValue}
+use Rattle.ig_session.specs.declared.ops.Refusal.TheVariants.{InvalidOperation, Malformed, NullKeyOrValue}
 
 -- what a reply shows: a result, or a status and the reason
 pub data Shown : Type 0 where
@@ -18,12 +19,12 @@ pub data Shown : Type 0 where
 
 abbrev pub refused : Refusal → Shown
 refused InvalidOperation = Fault (pos 2) (codes "invalid operation code")
-refused NotBuilt = Fault (pos 1) (codes "form not built")
+refused (Malformed place) = Fault (pos 1) (codes "malformed request at " ++ decimal place)
 refused NullKeyOrValue = Fault (pos 1) (codes "null key or value")
 
 abbrev pub came_of : Outcome → Shown
 came_of Done = Result []
-came_of (Found value) = Result (spelling value)
+came_of (Found value) = Result (Canon value)
 came_of (Refused NoCache) = Fault (pos 1000) (codes "cache does not exist")
 
 abbrev pub no_memory : Shown
@@ -34,5 +35,12 @@ abbrev pub reply : ℤ → Shown → List ℕ
 reply id (Result bytes) = LE w64 id ++ LE w32 (pos 0) ++ bytes
 reply id (Fault status reason) = LE w64 id ++ LE w32 status ++ string reason
 
+abbrev pub too_long : Shown
+too_long = Fault (pos 1) (codes "reply too long")
+
+-- a reply that is longer than a body may be gives way to one that says so
+abbrev pub reply_body : ℤ → Shown → List ℕ
+reply_body id shown = if nat_le (length (reply id shown)) max_body then reply id shown else reply id too_long
+
 abbrev pub reply_frame : ℤ → Shown → List ℕ
-reply_frame id shown = Frame (reply id shown)
+reply_frame id shown = Frame (reply_body id shown)

@@ -1,5 +1,5 @@
 -- A session between two of its steps.
-use Rattle.std.specs.Prelude.{◌≡◌, ℕ, true, false, List, [], Result, Ok, Err}
+use Rattle.std.specs.Prelude.{◌≡◌, ◌⊎◌, ℕ, true, false, List, [], Result, Ok, Err}
 use Rattle.ig_base.specs.declared.memory.NoMemory.{NoMemory}
 use Rattle.ig_base.specs.Numbers.{AreBytes}
 use Rattle.ig_base.specs.Frames as frames
@@ -28,7 +28,7 @@ pub record ReadsBody (old : Session) (body after : List ℕ) (ran : List Ran) (f
   pub found : frames.front (least_of old.is_open) old.frames ≡ frames.Body body after
   pub answers : AnswersBody old.is_open body ran frame
 
--- what a step does
+-- What a step does. Without memory for it nothing was read, or a body was, whose reply is missing.
 abbrev pub StepsTo : Result Step NoMemory → Session → Session → List Ran → Type 0
 StepsTo (Ok (steps.More missing)) old new ran =
     (ran ≡ []) × (new.frames ≡ old.frames) × (new.is_open ≡ old.is_open) × (frames.front (least_of old.is_open) old.frames ≡ frames.Part missing)
@@ -38,7 +38,7 @@ StepsTo (Ok steps.Out) old new ran =
     (body : List ℕ) × ReadsBody old body new.frames ran new.reply × (accepts old.is_open body ≡ true) × (new.is_open ≡ true)
 StepsTo (Ok (steps.Refused fault)) old new ran =
     (body : List ℕ) × ReadsBody old body new.frames ran new.reply × (old.is_open ≡ false) × (is_accepted body ≡ false) × (fault ≡ Version (asked_version body))
-StepsTo (Err e) old new ran = (body after frame : List ℕ) × ReadsBody old body after ran frame
+StepsTo (Err e) old new ran = (ran ≡ []) ⊎ ((body after frame : List ℕ) × ReadsBody old body after ran frame)
 
 -- a step, with what it made of the caller
 pub record Steps {C : Type 0} (stands : C → Plain → List Entry → Type 0) (seat : ℕ) (caller caller' : C) (old new : Session) (result : Result Step NoMemory) : Type 0 where

@@ -1,18 +1,20 @@
 //! Calls on caches, and the caches.
 
-ghost use Rattle.std.specs.Prelude.{◌≡◌, ◌<◌, ◌↔◌, None, length, IsTrue, IfSome, IfNone, OnOk, OnErr};
-ghost use Rattle.std.specs.Int.{w32};
-ghost use Rattle.ig_base.specs.Numbers.{LE};
-ghost use Rattle.ig_session.specs.Values.{spelling};
+ghost use Rattle.std.specs.Prelude.{◌≡◌, IfOk, IfErr, OnOk, OnErr};
+ghost use Rattle.ig_value.specs.declared.value.Value.{Value};
+ghost use Rattle.ig_value.specs.Canon.{Canon};
+ghost use Rattle.ig_value.specs.Limits.{Fits};
 ghost use Rattle.ig_session.specs.Caches.{value_in, with_row};
-ghost use Rattle.ig_session.specs.RowList.{rows_of, row_at, IsFirst};
+ghost use Rattle.ig_session.specs.Rows.{rows_of};
 
-use crate::value::Value;
-use ig_base::{NoRoom, Text, text_hash};
-use std::alloc::{AllocError, Global};
+use ig_base::{NoMemory, NoRoom, Octets, Text, text_hash};
+use ig_encode::encode;
+use ig_value::Value;
+use std::alloc::{AllocFailed, Global};
+use std::collections::BTreeMap;
 
 /// A call on the caches.
-#[derive(Clone, Copy, Debug, PartialEq, Eq)]
+#[derive(Debug, Drop)]
 pub enum Call {
     /// Asks for the value of a key.
     Get {
@@ -35,7 +37,7 @@ pub enum Why {
 }
 
 /// What came of a call.
-#[derive(Clone, Copy, Debug, PartialEq, Eq)]
+#[derive(Debug, Drop)]
 pub enum Outcome {
     Done,
     /// The value that was asked for, null where there is none.
@@ -44,7 +46,7 @@ pub enum Outcome {
 }
 
 /// The answer to a call.
-#[derive(Clone, Copy, Debug, PartialEq, Eq)]
+#[derive(Debug, Drop)]
 pub struct Answer {
     /// How often a cache had been created or destroyed.
     pub minor: i32,
@@ -68,84 +70,73 @@ pub trait Exec {
         ensures unchanged { OnErr result (caches self.new ≡ caches self.old) };
 }
 
-/// A row of a cache.
-#[derive(Clone, Copy, Debug)]
-struct Row {
-    key: Value,
-    value: Value,
-}
-
-/// One cache, whose rows stand in a list.
-#[derive(Debug, Drop)]
+/// One cache, whose rows stand by the canonical forms of their keys.
+#[derive(Drop)]
 pub struct Caches {
+    alloc: Global,
     id: i32,
     name: Text,
-    rows: Vec<Row>,
+    rows: BTreeMap<Vec<u8>, Value>,
+    // The canonical form of the key of the call that is run.
+    form: Octets,
 }
 
-/// Whether two numbers have the same bytes.
-#[tactic(auto, unfolding(ig_base::specs::Numbers::LE))]
-fn is_same_int(m: i32, n: i32) -> bool
-    ensures { IsTrue result ↔ (LE w32 m ≡ LE w32 n) }
+/// The value of the key with this canonical form, null where there is none.
+fn value_of(alloc: Global, rows: &BTreeMap<Vec<u8>, Value>, form: &[u8]) -> Result<Value, NoMemory>
+    ensures { IfOk result (λ value. (key : Value) → form.now ≡ Canon key → value ≡ value_in (rows_of (λ k. k.items) rows.now.entries) key) }
 {
-    m.to_le_bytes() == n.to_le_bytes()
-}
-
-/// Whether two values have one spelling.
-fn is_same(a: Value, b: Value) -> bool
-    ensures { IsTrue result ↔ (spelling a ≡ spelling b) }
-{
-    match (a, b) {
-        (Value::Int(m), Value::Int(n)) => is_same_int(m, n),
-        (Value::Null, Value::Null) => true,
-        _ => false,
+    match rows.get(form) {
+        Some(value) => value.copy(alloc),
+        None => Ok(Value::Null),
     }
 }
 
-/// The place of the row of a key.
-fn place_of(rows: &[Row], key: Value) -> Option<usize>
-    ensures within { IfSome result (λ i. i < length rows.now) }
-    ensures first { IfSome result (λ i. IsFirst (spelling key) i rows.now) }
-    ensures absent { IfNone result (row_at (spelling key) rows.now ≡ None) }
+/// Sets the value of the key with this canonical form. Without memory nothing has changed.
+fn set(
+    alloc: Global,
+    rows: &mut BTreeMap<Vec<u8>, Value>,
+    form: &[u8],
+    value: Value,
+) -> Result<(), NoRoom<Value>>
+    ensures ok { OnOk result ((key : Value) → Fits key → form.now ≡ Canon key
+        → rows_of (λ k. k.items) rows.new.entries ≡ with_row (rows_of (λ k. k.items) rows.old.entries) key value) }
+    ensures back { IfErr result (λ e. e.back ≡ value) }
+    ensures err { OnErr result (rows.new.entries ≡ rows.old.entries) }
 {
-    for (i, row) in rows.iter().enumerate() {
-        if is_same(key, row.key) {
-            return Some(i);
-        }
+    if let Some(standing) = rows.get_mut(form) {
+        *standing = value;
+        return Ok(());
     }
-    None
+    let Ok(key) = Vec::from_slice(alloc, form) else {
+        return Err(NoRoom { back: value });
+    };
+    match rows.insert(key, value) {
+        Ok(_) => Ok(()),
+        Err(AllocFailed { value: (_, value) }) => Err(NoRoom { back: value }),
+    }
 }
 
-/// The value of a key, null where there is none.
-fn value_of(rows: &[Row], key: Value) -> Value
-    ensures { result ≡ value_in (rows_of rows.now) key }
-{
-    for row in rows {
-        if is_same(key, row.key) {
-            return row.value;
-        }
-    }
-    Value::Null
-}
+impl Answer {
+    ghost use Rattle.std.specs.Prelude.{◌≡◌, pos};
+    ghost use Rattle.ig_session.specs.declared.caches.Outcome.TheVariants.{Refused};
+    ghost use Rattle.ig_session.specs.declared.caches.Why.TheVariants.{NoCache};
 
-/// Sets the value of a key. Without memory nothing has changed.
-fn put(rows: &mut Vec<Row>, key: Value, value: Value) -> Result<(), AllocError>
-    ensures ok { OnOk result (rows_of rows.new.items ≡ with_row (rows_of rows.old.items) key value) }
-    ensures err { OnErr result (rows.new.items ≡ rows.old.items) }
-{
-    let row = Row { key, value };
-    match place_of(rows, key) {
-        Some(i) => {
-            rows[i] = row;
-            Ok(())
+    // The answer to a call on a cache that isn't there.
+    fn no_cache() -> Answer
+        ensures minor { result.minor ≡ pos 0 }
+        ensures outcome { result.outcome ≡ Refused NoCache }
+    {
+        Answer {
+            minor: 0,
+            outcome: Outcome::Refused(Why::NoCache),
         }
-        None => Ok(rows.push(row)?),
     }
 }
 
 impl Caches {
     ghost use Rattle.std.specs.Prelude.{◌≡◌, [], ◌∷◌};
-    ghost use Rattle.ig_session.specs.Caches.{opened};
+    ghost use Rattle.ig_session.specs.Caches.{opened, IsItem, answered, after};
+    ghost use Rattle.ig_session.specs.declared.caches.Call.TheVariants.{Get, Put};
     ghost use Rattle.ig_session.specs.Kept.{kept};
 
     /// A cache of this name, without rows.
@@ -153,10 +144,85 @@ impl Caches {
         ensures { kept result ≡ opened (name ∷ []) }
     {
         Caches {
+            alloc,
             id: text_hash(name.as_str()),
             name,
-            rows: Vec::new(alloc),
+            rows: BTreeMap::new(alloc),
+            form: Octets::empty(alloc),
         }
+    }
+
+    // The value of a key, null where there is none.
+    fn found(&mut self, key: &Value) -> Result<Value, NoMemory>
+        requires { IsItem key.now }
+        ensures found { IfOk result (λ value. value ≡ value_in (rows_of (λ k. k.items) self.old.rows.entries) key.now) }
+        ensures same { kept self.new ≡ kept self.old }
+        ensures id { self.new.id ≡ self.old.id }
+    {
+        self.form.clear();
+        encode(self.alloc, key, &mut self.form)?;
+        value_of(self.alloc, &self.rows, self.form.as_slice())
+    }
+
+    fn get(&mut self, cache: i32, key: Value) -> Result<Answer, NoRoom<Call>>
+        requires { IsItem key }
+        ensures answer { IfOk result (λ answer. answer ≡ answered (kept self.old) (Get cache key)) }
+        ensures back { IfErr result (λ e. e.back ≡ Get cache key) }
+        ensures unchanged { kept self.new ≡ kept self.old }
+    {
+        if cache != self.id {
+            return Ok(Answer::no_cache());
+        }
+        match self.found(&key) {
+            Ok(value) => Ok(Answer {
+                minor: 0,
+                outcome: Outcome::Found(value),
+            }),
+            Err(_) => Err(NoRoom {
+                back: Call::Get { cache, key },
+            }),
+        }
+    }
+
+    fn put(&mut self, cache: i32, key: Value, value: Value) -> Result<Answer, NoRoom<Call>>
+        requires { IsItem key }
+        ensures answer { IfOk result (λ answer. answer ≡ answered (kept self.old) (Put cache key value)) }
+        ensures after { OnOk result (kept self.new ≡ after (kept self.old) (Put cache key value)) }
+        ensures back { IfErr result (λ e. e.back ≡ Put cache key value) }
+        ensures unchanged { OnErr result (kept self.new ≡ kept self.old) }
+    {
+        if cache != self.id {
+            return Ok(Answer::no_cache());
+        }
+        match self.store(&key, value) {
+            Ok(()) => Ok(Answer {
+                minor: 0,
+                outcome: Outcome::Done,
+            }),
+            Err(NoRoom { back }) => Err(NoRoom {
+                back: Call::Put {
+                    cache,
+                    key,
+                    value: back,
+                },
+            }),
+        }
+    }
+
+    // Sets the value of a key. Without memory the value comes back, and nothing has changed.
+    fn store(&mut self, key: &Value, value: Value) -> Result<(), NoRoom<Value>>
+        requires { IsItem key.now }
+        ensures ok { OnOk result (rows_of (λ k. k.items) self.new.rows.entries ≡ with_row (rows_of (λ k. k.items) self.old.rows.entries) key.now value) }
+        ensures back { IfErr result (λ e. e.back ≡ value) }
+        ensures err { OnErr result (kept self.new ≡ kept self.old) }
+        ensures id { self.new.id ≡ self.old.id }
+        ensures name { self.new.name ≡ self.old.name }
+    {
+        self.form.clear();
+        if encode(self.alloc, key, &mut self.form).is_err() {
+            return Err(NoRoom { back: value });
+        }
+        set(self.alloc, &mut self.rows, self.form.as_slice(), value)
     }
 }
 
@@ -166,18 +232,9 @@ impl Exec for Caches {
     ghost caches = { kept };
 
     fn run(&mut self, call: Call) -> Result<Answer, NoRoom<Call>> {
-        let outcome = match call {
-            Call::Get { cache, key } if cache == self.id => {
-                Outcome::Found(value_of(&self.rows, key))
-            }
-            Call::Put { cache, key, value } if cache == self.id => {
-                if put(&mut self.rows, key, value).is_err() {
-                    return Err(NoRoom { back: call });
-                }
-                Outcome::Done
-            }
-            _ => Outcome::Refused(Why::NoCache),
-        };
-        Ok(Answer { minor: 0, outcome })
+        match call {
+            Call::Get { cache, key } => self.get(cache, key),
+            Call::Put { cache, key, value } => self.put(cache, key, value),
+        }
     }
 }

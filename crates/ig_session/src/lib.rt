@@ -13,15 +13,14 @@ mod frame;
 mod ops;
 mod serve;
 mod session;
-mod value;
 mod wire;
 
 pub use caches::{Answer, Caches, Call, Exec, Outcome, Why};
 pub use caller::{Alone, Caller};
 pub use end::{SessionCfg, SessionEnd};
+pub use ig_value::Value;
 pub use ops::{Ask, Asked, Refusal};
 pub use serve::{serve_ends, serve_link};
-pub use value::Value;
 pub use wire::{HelloFault, Version};
 
 #[cfg(test)]

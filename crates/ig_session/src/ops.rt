@@ -1,110 +1,195 @@
 //! Requests: what they ask.
 
-ghost use Rattle.std.specs.Prelude.{◌≡◌, drop};
-ghost use Rattle.std.specs.Int.{w32};
-ghost use Rattle.ig_base.specs.Numbers.{number_at};
-ghost use Rattle.ig_session.specs.Values.{value_at};
-ghost use Rattle.ig_session.specs.Requests.{ask_of, ask_by, get_fields, put_fields, last_value, IsSoundAsk};
+ghost use Rattle.std.specs.Prelude.{◌≡◌, ◌+◌, ◌≤◌, drop, length, IfOk, OnOk};
+ghost use Rattle.ig_base.specs.Frames.{max_body};
+ghost use Rattle.ig_value.specs.Reading.{reading};
+ghost use Rattle.ig_session.specs.Requests.{ask_of, ask_by, asked_get, asked_put, get_at, put_at, whole, is_null, IsSoundAsk};
+ghost use Rattle.ig_session.specs.Fields.{ReadsCache, ReadsItem, ReadsEnd, ReadsGet, ReadsPut};
 
 use crate::caches::Call;
-use crate::value::{Value, read_value};
-use ig_base::{get_i16, get_i32, get_i64};
+use ig_base::{NoMemory, get_i16, get_i32, get_i64};
+use ig_decode::{DecodeFault, Refusal as Unspelled, decode_at};
+use ig_value::Value;
+use std::alloc::Global;
 
 /// Why a request is refused before any call is run.
 #[derive(Clone, Copy, Debug, PartialEq, Eq)]
 pub enum Refusal {
     /// No operation has the code.
     InvalidOperation,
-    /// The fields aren't a cache, flags and as many integers or nulls as the operation wants.
-    NotBuilt,
+    /// The fields don't read, or bytes follow them, at this place from the first byte of the frame's length.
+    Malformed { place: usize },
     /// A key or a value is null.
     NullKeyOrValue,
 }
 
 /// What a request asks.
-#[derive(Clone, Copy, Debug, PartialEq, Eq)]
+#[derive(Debug, Drop)]
 pub enum Ask {
     Run(Call),
     Refuse(Refusal),
 }
 
 /// A request: its identifier, and what it asks.
-#[derive(Clone, Copy, Debug, PartialEq, Eq)]
+#[derive(Debug, Drop)]
 pub struct Asked {
     pub id: i64,
     pub ask: Ask,
 }
 
-/// The one value that bytes are. `None` where they are none, or more follow.
-fn only_value(bytes: &[u8]) -> Option<Value>
-    ensures { result ≡ last_value (value_at bytes.now) }
+/// Why fields were not read.
+#[derive(Clone, Copy)]
+pub(crate) enum Unread {
+    /// They don't read at this place of the body.
+    At(usize),
+    /// There was no memory for them.
+    NoMemory,
+}
+
+/// The place of a request's fields in its body.
+const FIELDS: usize = 10;
+
+/// The place of the key of a request on one key.
+const KEY: usize = 15;
+
+/// The cache that the fields begin with. The flags behind it aren't looked at.
+fn cache_at(body: &[u8]) -> Result<i32, Unread>
+    requires { 10 ≤ length body.now }
+    ensures { ReadsCache body.now result }
 {
-    match read_value(bytes)? {
-        (value, []) => Some(value),
-        _ => None,
+    match get_i32(body, FIELDS) {
+        None => Err(Unread::At(FIELDS)),
+        Some(_) if body.len() < KEY => Err(Unread::At(KEY - 1)),
+        Some(cache) => Ok(cache),
     }
 }
 
-/// What the fields of a get ask.
-fn read_get(fields: &[u8]) -> Ask
-    ensures value { result ≡ get_fields fields.now (number_at w32 fields.now 0) }
-    ensures sound { IsSoundAsk result }
+/// The value at a place, and the place behind it.
+fn item_at(alloc: Global, body: &[u8], at: usize) -> Result<(Value, usize), Unread>
+    requires within { at ≤ length body.now }
+    requires short { length body.now ≤ max_body }
+    ensures { ReadsItem body.now at result }
 {
-    let Some(cache) = get_i32(fields, 0) else {
-        return Ask::Refuse(Refusal::NotBuilt);
-    };
-    match only_value(bytes_from(fields, 5)) {
-        None => Ask::Refuse(Refusal::NotBuilt),
-        Some(Value::Null) => Ask::Refuse(Refusal::NullKeyOrValue),
-        Some(key) => Ask::Run(Call::Get { cache, key }),
+    match decode_at(alloc, body, at) {
+        Ok(decoded) => Ok((decoded.value, at + decoded.used)),
+        Err(DecodeFault::Refused(Unspelled { place, .. })) => Err(Unread::At(place)),
+        Err(DecodeFault::NoMemory) => Err(Unread::NoMemory),
     }
 }
 
-/// What the fields of a put ask.
-fn read_put(fields: &[u8]) -> Ask
-    ensures value { result ≡ put_fields fields.now (number_at w32 fields.now 0) }
-    ensures sound { IsSoundAsk result }
+/// Whether the body ends at a place.
+fn end_at(body: &[u8], at: usize) -> Result<(), Unread>
+    requires { at ≤ length body.now }
+    ensures { ReadsEnd body.now at result }
 {
-    let Some(cache) = get_i32(fields, 0) else {
-        return Ask::Refuse(Refusal::NotBuilt);
-    };
-    let Some((key, after)) = read_value(bytes_from(fields, 5)) else {
-        return Ask::Refuse(Refusal::NotBuilt);
-    };
-    match (key, only_value(after)) {
-        (_, None) => Ask::Refuse(Refusal::NotBuilt),
-        (Value::Null, _) | (_, Some(Value::Null)) => Ask::Refuse(Refusal::NullKeyOrValue),
-        (key, Some(value)) => Ask::Run(Call::Put { cache, key, value }),
+    if at < body.len() {
+        Err(Unread::At(at))
+    } else {
+        Ok(())
     }
 }
 
-/// The bytes from a place on, none where it is past the end.
-fn bytes_from(bytes: &[u8], at: usize) -> &[u8]
-    ensures { result.now ≡ drop at bytes.now }
+/// The fields of a get: the cache and the key.
+fn get_fields(alloc: Global, body: &[u8]) -> Result<(i32, Value), Unread>
+    requires long { 10 ≤ length body.now }
+    requires short { length body.now ≤ max_body }
+    ensures { ReadsGet body.now result }
 {
-    if at < bytes.len() { &bytes[at..] } else { &[] }
+    let cache = cache_at(body)?;
+    let (key, end) = item_at(alloc, body, KEY)?;
+    match end_at(body, end) {
+        Ok(()) => Ok((cache, key)),
+        Err(fault) => Err(fault),
+    }
+}
+
+/// The fields of a put: the cache, the key and the value.
+fn put_fields(alloc: Global, body: &[u8]) -> Result<(i32, Value, Value), Unread>
+    requires long { 10 ≤ length body.now }
+    requires short { length body.now ≤ max_body }
+    ensures { ReadsPut body.now result }
+{
+    let cache = cache_at(body)?;
+    let (key, after) = item_at(alloc, body, KEY)?;
+    let (value, end) = item_at(alloc, body, after)?;
+    match end_at(body, end) {
+        Ok(()) => Ok((cache, key, value)),
+        Err(fault) => Err(fault),
+    }
+}
+
+/// Whether a value is null.
+fn is_no_value(value: &Value) -> bool
+    ensures { result ≡ is_null value.now }
+{
+    matches!(value, Value::Null)
+}
+
+/// What a get asks.
+fn read_get(alloc: Global, body: &[u8]) -> Result<Ask, NoMemory>
+    requires long { 10 ≤ length body.now }
+    requires short { length body.now ≤ max_body }
+    ensures value { IfOk result (λ ask. ask ≡ asked_get body.now (whole (get_at (drop 10 body.now)))) }
+    ensures sound { IfOk result (λ ask. IsSoundAsk ask) }
+{
+    match get_fields(alloc, body) {
+        Err(Unread::NoMemory) => Err(NoMemory),
+        Err(Unread::At(place)) => Ok(Ask::Refuse(Refusal::Malformed { place: 4 + place })),
+        Ok((cache, key)) => {
+            if is_no_value(&key) {
+                return Ok(Ask::Refuse(Refusal::NullKeyOrValue));
+            }
+            Ok(Ask::Run(Call::Get { cache, key }))
+        }
+    }
+}
+
+/// What a put asks.
+fn read_put(alloc: Global, body: &[u8]) -> Result<Ask, NoMemory>
+    requires long { 10 ≤ length body.now }
+    requires short { length body.now ≤ max_body }
+    ensures value { IfOk result (λ ask. ask ≡ asked_put body.now (whole (put_at (drop 10 body.now)))) }
+    ensures sound { IfOk result (λ ask. IsSoundAsk ask) }
+{
+    match put_fields(alloc, body) {
+        Err(Unread::NoMemory) => Err(NoMemory),
+        Err(Unread::At(place)) => Ok(Ask::Refuse(Refusal::Malformed { place: 4 + place })),
+        Ok((cache, key, value)) => {
+            if is_no_value(&key) {
+                return Ok(Ask::Refuse(Refusal::NullKeyOrValue));
+            }
+            if is_no_value(&value) {
+                return Ok(Ask::Refuse(Refusal::NullKeyOrValue));
+            }
+            Ok(Ask::Run(Call::Put { cache, key, value }))
+        }
+    }
 }
 
 /// What a request asks, by its operation.
-fn ask_by_operation(operation: i16, fields: &[u8]) -> Ask
-    ensures value { result ≡ ask_by operation fields.now }
-    ensures sound { IsSoundAsk result }
+fn ask_by_operation(alloc: Global, operation: i16, body: &[u8]) -> Result<Ask, NoMemory>
+    requires long { 10 ≤ length body.now }
+    requires short { length body.now ≤ max_body }
+    ensures value { IfOk result (λ ask. ask ≡ ask_by operation body.now) }
+    ensures sound { IfOk result (λ ask. IsSoundAsk ask) }
 {
     match operation {
-        1000 => read_get(fields),
-        1001 => read_put(fields),
-        _ => Ask::Refuse(Refusal::InvalidOperation),
+        1000 => read_get(alloc, body),
+        1001 => read_put(alloc, body),
+        _ => Ok(Ask::Refuse(Refusal::InvalidOperation)),
     }
 }
 
 /// What a request asks: behind the operation and the identifier stand the operation's fields.
 #[tactic(auto, unfolding(crate::specs::Requests::ask_of))]
-pub(crate) fn read_ask(body: &[u8]) -> Asked
-    ensures value { result ≡ ask_of body.now }
-    ensures sound { IsSoundAsk result.ask }
+pub(crate) fn read_ask(alloc: Global, body: &[u8]) -> Result<Asked, NoMemory>
+    requires long { 10 ≤ length body.now }
+    requires short { length body.now ≤ max_body }
+    ensures value { IfOk result (λ asked. asked ≡ ask_of body.now) }
+    ensures sound { IfOk result (λ asked. IsSoundAsk asked.ask) }
 {
     let operation = get_i16(body, 0).unwrap_or(0);
     let id = get_i64(body, 2).unwrap_or(0);
-    let ask = ask_by_operation(operation, bytes_from(body, 10));
-    Asked { id, ask }
+    let ask = ask_by_operation(alloc, operation, body)?;
+    Ok(Asked { id, ask })
 }

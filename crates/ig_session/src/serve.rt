@@ -59,6 +59,7 @@ fn take_piece<S: Source>(
 
 /// Answers each whole frame, in order, and tells how many bytes are missing to the next.
 fn answer_all<C: Caller, K: Sink>(
+    alloc: Global,
     session: &mut Session,
     caller: &mut C,
     sink: &mut K,
@@ -70,7 +71,7 @@ fn answer_all<C: Caller, K: Sink>(
     ensures beside { K.source_beside sink.new ≡ K.source_beside sink.old }
 {
     'frames: loop {
-        match session.advance(caller) {
+        match session.advance(alloc, caller) {
             Err(_) => return Err(SessionEnd::NoMemory),
             Ok(Step::More(missing)) => return Ok(missing),
             Ok(Step::Bad(length)) => {
@@ -113,7 +114,7 @@ pub fn serve_ends<C: Caller, S: Source, K: Sink>(
             Ok(more) => taken = more,
             Err(end) => return end,
         }
-        match answer_all(&mut session, caller, sink, taken) {
+        match answer_all(alloc, &mut session, caller, sink, taken) {
             Ok(more) => missing = more,
             Err(end) => return end,
         }
@@ -142,7 +143,7 @@ pub fn serve_link<C: Caller, L: Duplex>(
             Ok(more) => taken = more,
             Err(end) => return end,
         }
-        match answer_all(&mut session, caller, link, taken) {
+        match answer_all(alloc, &mut session, caller, link, taken) {
             Ok(more) => missing = more,
             Err(end) => return end,
         }

@@ -6,6 +6,7 @@ ghost use Rattle.ig_session.specs.Given.{shown_given};
 ghost use Rattle.ig_session.specs.Requests.{IsSoundAsk};
 ghost use Rattle.ig_session.specs.Answers.{Answers};
 ghost use Rattle.ig_session.specs.Bodies.{least_of};
+ghost use Rattle.ig_session.specs.declared.ops.Refusal.TheVariants.{Malformed};
 
 use crate::caches::{Answer, Call, Outcome, Why};
 use crate::caller::Caller;
@@ -45,18 +46,27 @@ fn least_len(is_open: bool) -> usize
 }
 
 /// Appends the reply to a request that is refused.
-fn put_refusal(out: &mut Octets, id: i64, refusal: Refusal) -> Result<(), NoMemory>
+fn put_refusal(alloc: Global, out: &mut Octets, id: i64, refusal: Refusal) -> Result<(), NoMemory>
     ensures { OnOk result (out.new ≡ out.old ++ reply_frame id (refused refusal)) }
 {
     match refusal {
         Refusal::InvalidOperation => put_fault(out, id, 2, "invalid operation code"),
-        Refusal::NotBuilt => put_fault(out, id, 1, "form not built"),
+        Refusal::Malformed { place } => put_malformed(alloc, out, id, place),
         Refusal::NullKeyOrValue => put_fault(out, id, 1, "null key or value"),
     }
 }
 
+/// Appends the reply to a request whose fields don't read at a place.
+fn put_malformed(alloc: Global, out: &mut Octets, id: i64, place: usize) -> Result<(), NoMemory>
+    ensures { OnOk result (out.new ≡ out.old ++ reply_frame id (refused (Malformed place))) }
+{
+    let reason = format!(in alloc; "malformed request at {place}")?;
+    put_fault(out, id, 1, reason.as_str())
+}
+
 /// Appends the reply to a call, by what was given for it.
 fn put_given(
+    alloc: Global,
     out: &mut Octets,
     id: i64,
     given: &Result<Answer, NoRoom<Call>>,
@@ -65,25 +75,31 @@ fn put_given(
 {
     match given {
         Err(_) => put_fault(out, id, 9000, "no memory"),
-        Ok(answer) => match answer.outcome {
+        Ok(answer) => match &answer.outcome {
             Outcome::Done => put_done(out, id),
-            Outcome::Found(value) => put_found(out, id, value),
+            Outcome::Found(value) => put_found(alloc, out, id, value),
             Outcome::Refused(Why::NoCache) => put_fault(out, id, 1000, "cache does not exist"),
         },
     }
 }
 
 /// Answers a request: runs its call, if it has one, and appends the reply.
-fn answer_to<C: Caller>(caller: &mut C, asked: Asked, reply: &mut Octets) -> Result<(), NoMemory>
+fn answer_to<C: Caller>(
+    alloc: Global,
+    caller: &mut C,
+    asked: Asked,
+    reply: &mut Octets,
+) -> Result<(), NoMemory>
     requires { IsSoundAsk asked.ask }
     ensures answers { Answers C.stands (C.seat caller.old) caller.old caller.new asked result reply.old reply.new }
     ensures seat { C.seat caller.new ≡ C.seat caller.old }
 {
-    match asked.ask {
-        Ask::Refuse(refusal) => put_refusal(reply, asked.id, refusal),
+    let Asked { id, ask } = asked;
+    match ask {
+        Ask::Refuse(refusal) => put_refusal(alloc, reply, id, refusal),
         Ask::Run(call) => {
             let given = caller.run(call);
-            put_given(reply, asked.id, &given)
+            put_given(alloc, reply, id, &given)
         }
     }
 }
@@ -105,7 +121,7 @@ impl Session {
     }
 
     /// The next step: reads the frame that comes next, if it is whole, and answers it.
-    pub fn advance<C: Caller>(&mut self, caller: &mut C) -> Result<Step, NoMemory>
+    pub fn advance<C: Caller>(&mut self, alloc: Global, caller: &mut C) -> Result<Step, NoMemory>
         ensures steps { Steps C.stands (C.seat caller.old) caller.old caller.new self.old self.new result }
         ensures seat { C.seat caller.new ≡ C.seat caller.old }
     {
@@ -117,7 +133,8 @@ impl Session {
         };
         let len = body.len();
         if self.is_open {
-            let answered = answer_to(caller, read_ask(body), &mut self.reply);
+            let asked = read_ask(alloc, body)?;
+            let answered = answer_to(alloc, caller, asked, &mut self.reply);
             self.frames.pass(len);
             return match answered {
                 Ok(()) => Ok(Step::Out),

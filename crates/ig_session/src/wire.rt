@@ -6,10 +6,15 @@ ghost use Rattle.ig_base.specs.Numbers.{LE};
 ghost use Rattle.ig_base.specs.Frames.{Frame};
 ghost use Rattle.ig_session.specs.Hellos.{is_accepted, asked_version, accepting, refusing, string};
 ghost use Rattle.ig_session.specs.Replies.{reply_frame, Result as result_of, Fault as fault_of};
-ghost use Rattle.ig_session.specs.Values.{spelling};
+ghost use Rattle.ig_value.specs.Canon.{Canon};
 
-use crate::value::{Value, put_value};
 use ig_base::{NoMemory, Octets, get_i16, put_i16, put_i32, put_i64};
+use ig_encode::{canonical_len, encode};
+use ig_value::Value;
+use std::alloc::Global;
+
+/// The greatest length of a result in a reply, whose head has 12 bytes.
+const MOST_RESULT: u128 = 8_388_608 - 12;
 
 /// A version of the protocol.
 #[derive(Clone, Copy, Debug, PartialEq, Eq)]
@@ -110,24 +115,21 @@ pub(crate) fn put_done(out: &mut Octets, id: i64) -> Result<(), NoMemory>
     put_head(out, 12, id, 0)
 }
 
-/// How long a value's spelling is.
-fn value_len(value: Value) -> usize
-    ensures value { result ≡ length (spelling value) }
-    ensures small { result ≤ 5 }
+/// Appends the frame of a reply that shows a value, or of one that says that it would be too long.
+pub(crate) fn put_found(
+    alloc: Global,
+    out: &mut Octets,
+    id: i64,
+    value: &Value,
+) -> Result<(), NoMemory>
+    ensures { OnOk result (out.new ≡ out.old ++ reply_frame id (result_of (Canon value.now))) }
 {
-    match value {
-        Value::Int(_) => 5,
-        Value::Null => 1,
+    let len = canonical_len(value);
+    if len > MOST_RESULT {
+        return put_fault(out, id, 1, "reply too long");
     }
-}
-
-/// Appends the frame of a reply that shows a value.
-pub(crate) fn put_found(out: &mut Octets, id: i64, value: Value) -> Result<(), NoMemory>
-    ensures { OnOk result (out.new ≡ out.old ++ reply_frame id (result_of (spelling value))) }
-{
-    let len = value_len(value);
-    put_head(out, 12 + len, id, 0)?;
-    put_value(out, value)
+    put_head(out, 12 + len as usize, id, 0)?;
+    encode(alloc, value, out)
 }
 
 /// Appends the frame of a reply that shows a status and the reason.

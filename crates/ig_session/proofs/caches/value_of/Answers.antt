@@ -1,22 +1,8 @@
-use Rattle.std.proofs.Common.{◌∙◌, ap, sym, refl}
-use Rattle.std.proofs.lemmas.List.{drop_all}
-use Rattle.ig_session.specs.Values.{spelling}
-use Rattle.ig_session.specs.Caches.{held}
-use Rattle.ig_session.specs.RowList.{row_at}
-use Rattle.ig_session.proofs.RowLemmas.{row_at-next, row_at-here, value_in-rows}
+use Rattle.ig_session.proofs.RowLemmas.{copy_found, none_found}
 use Rattle.ig_session.proofs.caches.value_of.Goals as goal
 
-pub returns-then-is_same : goal.returns-then-is_same
-returns-then-is_same c =
-    sym (value_in-rows c.args.rows.now c.args.key
-    ∙ ap held (sym c.loop-row.invariant ∙ row_at-here (spelling c.args.key) c.args.rows.now c.loop-row.row-index c.loop-row-test.true (c.if-is_same.ensures.0 refl)))
+pub returns-in-Some : goal.returns-in-Some
+returns-in-Some c = copy_found (λ k. k.items) c.args.rows.now.entries c.args.form.now c.in-Some.value.now c.copy.result c.in-Some.ensures.value c.copy.ensures
 
-pub loop-row-preserved : goal.loop-row-preserved
-loop-row-preserved c =
-    row_at-next (spelling c.args.key) c.args.rows.now c.loop-row.row-index c.loop-row-test.true (λ e. let yes = c.if-is_same.ensures.1 e in cc)
-    ∙ c.loop-row.invariant
-
-pub returns : goal.returns
-returns c =
-    sym (value_in-rows c.args.rows.now c.args.key
-    ∙ ap held (sym c.loop-row.invariant ∙ ap (row_at (spelling c.args.key)) (drop_all c.loop-row.row-index c.args.rows.now c.loop-row-test.false)))
+pub returns-in-None : goal.returns-in-None
+returns-in-None c = λ key spelled. none_found (λ k. k.items) c.args.rows.now.entries c.args.form.now key c.in-None.ensures.value spelled

@@ -1,11 +1,20 @@
 use Rattle.ig_session.specs.Hellos.{accepting, refusing}
 use Rattle.ig_session.specs.declared.wire.HelloFault.TheVariants.{Version}
-use Rattle.std.proofs.Common.{refl, cond, ◌++◌, ◌∙◌, sym, ap, subst, List, ℕ}
+use Rattle.std.proofs.Common.{refl, cond, ◌++◌, ◌∙◌, sym, ap, subst, length, ◌≤◌, List, ℕ}
 use Rattle.ig_base.specs.Frames as frames
 use Rattle.ig_session.specs.Answers.{Answers}
-use Rattle.ig_session.proofs.LookLemmas.{passed, inside}
+use Rattle.ig_session.specs.Bodies.{least_of}
+use Rattle.ig_session.proofs.LookLemmas.{passed, inside, body_range}
 use Rattle.ig_session.proofs.StepLemmas.{open_ok, open_err, hello_accepted, hello_refused, hello_err}
 use Rattle.ig_session.proofs.session.Session.advance.Goals as goal
+
+pub read_ask-requires-clause-long : goal.read_ask-requires-clause-long
+read_ask-requires-clause-long g c =
+    let range = body_range c.least_len.result c.args.self.now.frames c.in-Body.body.now c.in-Body.ensures.0 c.in-Body.ensures.1 in
+    subst (λ (n : ℕ). n ≤ length c.in-Body.body.now) (c.least_len.ensures ∙ ap least_of c.if-self.true) range.0
+
+pub read_ask-requires-clause-short : goal.read_ask-requires-clause-short
+read_ask-requires-clause-short g c = (body_range c.least_len.result c.args.self.now.frames c.in-Body.body.now c.in-Body.ensures.0 c.in-Body.ensures.1).1
 
 pub pass-requires : goal.pass-requires
 pass-requires g c = inside c.least_len.result c.args.self.now.frames c.in-Body.body.now c.in-Body.ensures.0 c.in-Body.ensures.1
@@ -17,21 +26,21 @@ pub returns-in-Ok-clause-steps : goal.returns-in-Ok-clause-steps
 returns-in-Ok-clause-steps g c =
     let found = sym (ap (λ n. frames.front n c.args.self.now.frames) c.least_len.ensures)
     ∙ passed c.least_len.result c.args.self.now.frames c.in-Body.body.now c.pass.new.self c.in-Body.ensures.0 c.in-Body.ensures.1 c.pass.ensures in
-    let answers = subst (λ (l : List ℕ). Answers g.C.Caller.stands (g.C.Caller.seat c.args.caller.now) c.args.caller.now c.answer_to-answered.new.caller c.read_ask.result c.answer_to-answered.result l c.answer_to-answered.new.reply)
+    let answers = subst (λ (l : List ℕ). Answers g.C.Caller.stands (g.C.Caller.seat c.args.caller.now) c.args.caller.now c.answer_to-answered.new.caller c.in_ok-asked.asked c.answer_to-answered.result l c.answer_to-answered.new.reply)
     c.clear.ensures c.answer_to-answered.ensures.answers in
     open_ok g.C.Caller.stands (g.C.Caller.seat c.args.caller.now) c.args.caller.now c.answer_to-answered.new.caller c.args.self.now
     (record { frames = c.pass.new.self; is_open = c.args.self.now.is_open; reply = c.answer_to-answered.new.reply }) c.in-Body.body.now
-    c.read_ask.result c.answer_to-answered.result c.in-Ok.field-0 c.if-self.true refl found c.read_ask.ensures.value answers c.in-Ok.is
+    c.in_ok-asked.asked c.answer_to-answered.result c.in-Ok.field-0 c.if-self.true refl found c.in_ok-asked.ensures.value answers c.in-Ok.is
 
 pub returns-in-Err-clause-steps : goal.returns-in-Err-clause-steps
 returns-in-Err-clause-steps g c =
     let found = sym (ap (λ n. frames.front n c.args.self.now.frames) c.least_len.ensures)
     ∙ passed c.least_len.result c.args.self.now.frames c.in-Body.body.now c.pass.new.self c.in-Body.ensures.0 c.in-Body.ensures.1 c.pass.ensures in
-    let answers = subst (λ (l : List ℕ). Answers g.C.Caller.stands (g.C.Caller.seat c.args.caller.now) c.args.caller.now c.answer_to-answered.new.caller c.read_ask.result c.answer_to-answered.result l c.answer_to-answered.new.reply)
+    let answers = subst (λ (l : List ℕ). Answers g.C.Caller.stands (g.C.Caller.seat c.args.caller.now) c.args.caller.now c.answer_to-answered.new.caller c.in_ok-asked.asked c.answer_to-answered.result l c.answer_to-answered.new.reply)
     c.clear.ensures c.answer_to-answered.ensures.answers in
     open_err g.C.Caller.stands (g.C.Caller.seat c.args.caller.now) c.args.caller.now c.answer_to-answered.new.caller c.args.self.now
     (record { frames = c.pass.new.self; is_open = c.args.self.now.is_open; reply = c.answer_to-answered.new.reply }) c.in-Body.body.now
-    c.read_ask.result c.answer_to-answered.result c.in-Err.e c.if-self.true found c.read_ask.ensures.value answers
+    c.in_ok-asked.asked c.answer_to-answered.result c.in-Err.e c.if-self.true found c.in_ok-asked.ensures.value answers
 
 pub returns-in-Err-greeted-clause-steps : goal.returns-in-Err-greeted-clause-steps
 returns-in-Err-greeted-clause-steps g c =

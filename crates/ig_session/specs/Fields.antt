@@ -1,0 +1,52 @@
+-- Reading the fields of a request.
+use Rattle.std.specs.Prelude.{◌≡◌, ℕ, ℤ, ◌-◌, ◌<◌, ◌≤◌, List, [], drop, length, Result, Ok, Err}
+use Rattle.ig_value.specs.declared.cause.Cause.{Cause}
+use Rattle.ig_value.specs.declared.value.Value.{Value}
+use Rattle.ig_value.specs.Canon.{IsSendable}
+use Rattle.ig_value.specs.Limits.{Fits}
+use Rattle.ig_value.specs.Reading.{Read, reading}
+use Rattle.ig_session.specs.Requests.{cache_at, get_at, put_at, whole}
+use Rattle.ig_session.specs.declared.ops.Unread.{Unread}
+use Rattle.ig_session.specs.declared.ops.Unread.TheVariants.{At, NoMemory}
+
+-- reading stops at this place of the body
+pub record StopsAt {A : Type 0} (body : List ℕ) (place : ℕ) (read : Read A) : Type 0 where
+  pub cause : Cause
+  pub within : place ≤ length body
+  pub is : read ≡ Err (length body - place, cause)
+
+-- reading stops where it is said to, unless memory ran out
+abbrev pub Halts : {A : Type 0} → List ℕ → Unread → Read A → Type 0
+Halts body (At place) read = StopsAt body place read
+Halts body NoMemory read = Unit {0}
+
+-- a value that was read keeps to the limits, and its canonical form is no longer than what it was read from
+abbrev pub IsRead : Value → Type 0
+IsRead v = Fits v × IsSendable v
+
+abbrev pub ReadsCache : List ℕ → Result ℤ Unread → Type 0
+ReadsCache body (Ok cache) = (15 ≤ length body) × (flags : ℤ) × (cache_at (drop 10 body) ≡ Ok ((cache, flags), drop 15 body))
+ReadsCache body (Err fault) = Halts body fault (cache_at (drop 10 body))
+
+abbrev pub ReadsItem : List ℕ → ℕ → Result (Value × ℕ) Unread → Type 0
+ReadsItem body at (Ok (v, end)) = (end ≤ length body) × (reading (drop at body) ≡ Ok (v, drop end body)) × IsRead v
+ReadsItem body at (Err fault) = Halts body fault (reading (drop at body))
+
+-- nothing stands behind the place
+abbrev pub ReadsEnd : List ℕ → ℕ → Result (Unit {0}) Unread → Type 0
+ReadsEnd body at (Ok u) = drop at body ≡ []
+ReadsEnd body at (Err NoMemory) = ⊥
+ReadsEnd body at (Err (At place)) = (place ≡ at) × (at < length body)
+
+-- the fields are not read as a whole, unless memory ran out
+abbrev pub IsNotWhole : {A : Type 0} → List ℕ → Unread → Result A ℕ → Type 0
+IsNotWhole body (At place) fields = (place ≤ length body) × (fields ≡ Err (length body - place))
+IsNotWhole body NoMemory fields = Unit {0}
+
+abbrev pub ReadsGet : List ℕ → Result (ℤ × Value) Unread → Type 0
+ReadsGet body (Ok (cache, key)) = (flags : ℤ) × (whole (get_at (drop 10 body)) ≡ Ok ((cache, flags), key)) × IsRead key
+ReadsGet body (Err fault) = IsNotWhole body fault (whole (get_at (drop 10 body)))
+
+abbrev pub ReadsPut : List ℕ → Result (ℤ × Value × Value) Unread → Type 0
+ReadsPut body (Ok (cache, key, value)) = (flags : ℤ) × (whole (put_at (drop 10 body)) ≡ Ok (((cache, flags), key), value)) × IsRead key × IsRead value
+ReadsPut body (Err fault) = IsNotWhole body fault (whole (put_at (drop 10 body)))
