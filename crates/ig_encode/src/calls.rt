@@ -42,10 +42,23 @@ pub fn encode(alloc: Global, value: &Value, out: &mut Octets) -> Result<(), NoMe
     ensures ok { OnOk result (out.new ≡ out.old ++ Canon value.now) }
     ensures err { OnErr result (out.new ≡ out.old) }
 {
-    let more = canonical_len(value) as usize;
+    encode_known(alloc, value, canonical_len(value) as usize, out)
+}
+
+/// The same where the caller knows how many bytes the canonical form has, and they aren't counted again.
+pub fn encode_known(
+    alloc: Global,
+    value: &Value,
+    len: usize,
+    out: &mut Octets,
+) -> Result<(), NoMemory>
+    requires { len ≡ length (Canon value.now) }
+    ensures ok { OnOk result (out.new ≡ out.old ++ Canon value.now) }
+    ensures err { OnErr result (out.new ≡ out.old) }
+{
     let mut bytes = mem::replace(out, Octets::empty(alloc)).into_std();
     let start = bytes.len();
-    let grown = grow(&mut bytes, more);
+    let grown = grow(&mut bytes, len);
     if grown.is_ok() {
         fill(value, start, &mut bytes);
     }

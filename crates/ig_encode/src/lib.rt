@@ -15,7 +15,7 @@ mod spell;
 mod splice;
 mod walk;
 
-pub use calls::{canonical_len, encode, encode_part, round_trip};
+pub use calls::{canonical_len, encode, encode_known, encode_part, round_trip};
 
 #[cfg(test)]
 mod tests;

@@ -9,7 +9,7 @@ ghost use Rattle.ig_session.specs.Replies.{reply_frame, Result as result_of, Fau
 ghost use Rattle.ig_value.specs.Canon.{Canon};
 
 use ig_base::{NoMemory, Octets, get_i16, put_i16, put_i32, put_i64};
-use ig_encode::{canonical_len, encode};
+use ig_encode::{canonical_len, encode_known};
 use ig_value::Value;
 use std::alloc::Global;
 
@@ -128,8 +128,9 @@ pub(crate) fn put_found(
     if len > MOST_RESULT {
         return put_fault(out, id, 1, "reply too long");
     }
-    put_head(out, 12 + len as usize, id, 0)?;
-    encode(alloc, value, out)
+    let len = len as usize;
+    put_head(out, 12 + len, id, 0)?;
+    encode_known(alloc, value, len, out)
 }
 
 /// Appends the frame of a reply that shows a status and the reason.

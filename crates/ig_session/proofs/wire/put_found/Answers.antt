@@ -20,7 +20,7 @@ returns c =
     let len : ℕ = c.canonical_len-len.result in
     let same : length form ≡ len = omega (arith, c.if-len-gt-MOST_RESULT.false, c.canonical_len-len.ensures) in
     let short : 12 + len ≤ max_body = omega (arith, c.if-len-gt-MOST_RESULT.false) in
-    on_ok c.encode.result c.encode.ensures.ok (λ e.
+    on_ok c.encode_known.result c.encode_known.ensures.ok (λ e.
     e ∙ ap (λ (l : List ℕ). l ++ form) c.in_ok-put_head.ensures
     ∙ ap (λ (i : ℤ). c.args.out.now ++ LE w32 (pos (12 + len)) ++ LE w64 i ++ LE w32 (pos 0) ++ form) (to_z-of_z w64 c.args.id c.ranges.id)
     ∙ result_framed c.args.out.now c.args.id form (12 + len) (ap (λ (k : ℕ). 12 + k) same) short)
