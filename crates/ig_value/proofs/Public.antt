@@ -10,8 +10,8 @@ use Rattle.ig_value.specs.Spells.{Spells}
 use Rattle.ig_value.specs.Stops.{Stops}
 use Rattle.ig_value.specs.Canon.{Canon}
 use Rattle.ig_value.specs.Limits.{Fits, FitsTo, FitsPart, Depth, inside, greatest}
-use Rattle.ig_value.specs.Reading.{Fault, Read, value_at}
-use Rattle.ig_value.specs.Laws.{BeginsWithValue, HasStop, EveryInputIsDecided, OneFrontSpells, OneStop, NoStopBehindValue, SpelledFits, CanonSpells, CanonIsShortest, CanonTellsApart, ByteForEachNode, FitsIsShallow, FitsAtItsDepth}
+use Rattle.ig_value.specs.Reading.{Fault, Read, value_at, reading}
+use Rattle.ig_value.specs.Laws.{BeginsWithValue, HasStop, EveryInputIsDecided, OneFrontSpells, OneStop, NoStopBehindValue, ReadIsSpelled, SpelledIsRead, ReadingStopsRightly, StopIsRead, SpelledFits, CanonSpells, CanonIsShortest, CanonTellsApart, ByteForEachNode, FitsIsShallow, FitsAtItsDepth}
 use Rattle.ig_value.proofs.Agrees.{ok_is, err_is}
 use Rattle.ig_value.proofs.Values.{value_agrees}
 use Rattle.ig_value.proofs.Folds.{Depth_out}
@@ -49,6 +49,22 @@ no_stop_behind_value a x v p c h w =
     let left : value_at 32 (a ++ x) ≡ Ok (v, x) = (value_agrees 32).again a v x h in
     let right = (value_agrees 32).halted (a ++ x) p c w in
     let both = sym left ∙ right.is in cc
+
+pub read_is_spelled : ReadIsSpelled
+unfolding reading Spells
+read_is_spelled s rest v bytes is = let t = (value_agrees 32).takes s v rest bytes is in (t.front, t.whole, t.right)
+
+pub spelled_is_read : SpelledIsRead
+unfolding reading Spells
+spelled_is_read front rest v h = (value_agrees 32).again front v rest h
+
+pub reading_stops_rightly : ReadingStopsRightly
+unfolding reading Stops
+reading_stops_rightly s left c bytes is = let h = (value_agrees 32).halts s left c bytes is in (h.at, h.there, h.wrong)
+
+pub stop_is_read : StopIsRead
+unfolding reading Stops
+stop_is_read s at c stops = let h = (value_agrees 32).halted s at c stops in (h.left, h.there, h.is)
 
 pub spelled_values_fit : SpelledFits
 unfolding Spells Fits

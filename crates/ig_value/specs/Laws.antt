@@ -1,5 +1,5 @@
 -- What holds of every input and every value, said of lists and trees alone.
-use Rattle.std.specs.Prelude.{◌≡◌, ℕ, ◌≤◌, ◌⊎◌, ◌++◌, List, length}
+use Rattle.std.specs.Prelude.{◌≡◌, ℕ, ◌+◌, ◌≤◌, ◌⊎◌, ◌++◌, List, length, Ok, Err}
 use Rattle.ig_base.specs.Numbers.{AreBytes}
 use Rattle.ig_value.specs.declared.cause.Cause.{Cause}
 use Rattle.ig_value.specs.declared.value.Value.{Value}
@@ -7,6 +7,7 @@ use Rattle.ig_value.specs.Spells.{Spells}
 use Rattle.ig_value.specs.Stops.{Stops}
 use Rattle.ig_value.specs.Canon.{Canon}
 use Rattle.ig_value.specs.Limits.{Fits, FitsTo, Depth, Nodes}
+use Rattle.ig_value.specs.Reading.{reading}
 
 -- some front of the bytes spells a value
 pub record BeginsWithValue (s : List ℕ) : Type 0 where
@@ -38,7 +39,27 @@ OneStop = (s : List ℕ) (p q : ℕ) (c d : Cause) → Stops s p c → Stops s q
 abbrev pub NoStopBehindValue : Type 0
 NoStopBehindValue = (a x : List ℕ) (v : Value) (p : ℕ) (c : Cause) → Spells a v → Stops (a ++ x) p c → ⊥
 
--- a value keeps to the limits exactly where it has a spelling
+-- ---- reading as a function of the bytes
+
+-- what is read is spelled
+abbrev pub ReadIsSpelled : Type 0
+ReadIsSpelled = (s rest : List ℕ) (v : Value) → AreBytes s → reading s ≡ Ok (v, rest) → (front : List ℕ) × (s ≡ front ++ rest) × Spells front v
+
+-- what is spelled is read, whatever follows it
+abbrev pub SpelledIsRead : Type 0
+SpelledIsRead = (front rest : List ℕ) (v : Value) → Spells front v → reading (front ++ rest) ≡ Ok (v, rest)
+
+-- where reading stops, with so many bytes left, the bytes stop being a value
+abbrev pub ReadingStopsRightly : Type 0
+ReadingStopsRightly = (s : List ℕ) (left : ℕ) (c : Cause) → AreBytes s → reading s ≡ Err (left, c) → (at : ℕ) × (left + at ≡ length s) × Stops s at c
+
+-- where they stop being a value, reading stops
+abbrev pub StopIsRead : Type 0
+StopIsRead = (s : List ℕ) (at : ℕ) (c : Cause) → Stops s at c → (left : ℕ) × (left + at ≡ length s) × (reading s ≡ Err (left, c))
+
+-- ---- the canonical form, and limits
+
+-- what has a spelling keeps to the limits
 abbrev pub SpelledFits : Type 0
 SpelledFits = (s : List ℕ) (v : Value) → Spells s v → Fits v
 

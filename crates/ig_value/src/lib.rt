@@ -12,5 +12,5 @@ mod value;
 
 pub use cause::Cause;
 pub use code::Code;
-pub use laws::{bounded_trees, one_form, one_reading};
+pub use laws::{bounded_trees, one_form, one_reader, one_reading};
 pub use value::{DEEPEST, Dec, Stamp, Value};
