@@ -8,8 +8,8 @@ rounds=${2:-9}
 work=$(mktemp -d)
 trap 'rm -rf "$work"' EXIT
 rustc -O -o "$work/mutex" "$top/bench/turn/mutex.rs"
-(cd "$top/crates/ig_turn_bench" && rt run -- 1 1 >"$work/build" 2>&1) || { cat "$work/build"; exit 1; }
-cp "$top/crates/ig_turn_bench/out/ig_turn_bench" "$work/turn"
+(cd "$top/crates/turn_bench" && rt run -- 1 1 >"$work/build" 2>&1) || { cat "$work/build"; exit 1; }
+cp "$top/crates/turn_bench/out/turn_bench" "$work/turn"
 
 # The microseconds of one run.
 took() {

@@ -1,5 +1,5 @@
 use Rattle.ig_turn.specs.History.{IsOf}
-use Rattle.ig_turn_bench.proofs.work.Given as goal
+use Rattle.turn_bench.proofs.work.Given as goal
 
 abbrev pub invariant-loop : goal.invariant-loop
 invariant-loop g l = IsOf l.turn l.seat

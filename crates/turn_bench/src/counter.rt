@@ -9,7 +9,7 @@ pub struct Counter {
 
 impl Plain for Counter {
     ghost use Rattle.std.specs.Prelude.{◌≡◌, ◌+◌, ◌%◌, length};
-    ghost use Rattle.ig_turn_bench.specs.Counts.{CountsFrom, counts_front};
+    ghost use Rattle.turn_bench.specs.Counts.{CountsFrom, counts_front};
 
     type Ask = ();
 

@@ -1,6 +1,6 @@
 use Rattle.std.proofs.Common.{All}
 use Rattle.ig_turn.specs.History.{IsOf}
-use Rattle.ig_turn_bench.proofs.seats.Given as goal
+use Rattle.turn_bench.proofs.seats.Given as goal
 
 abbrev pub invariant-loop : goal.invariant-loop
 invariant-loop g l = IsOf l.turn l.seat × All (IsOf l.turn) l.seats.items

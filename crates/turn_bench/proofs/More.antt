@@ -1,6 +1,6 @@
 -- One more call of a counter.
 use Rattle.std.proofs.Common.{◌≡◌, ℕ, ◌+◌, List, [], ◌∷◌, ◌++◌, length, arith, length-append}
-use Rattle.ig_turn_bench.specs.Counts.{CountsFrom}
+use Rattle.turn_bench.specs.Counts.{CountsFrom}
 
 counts_more : (n m : ℕ) (ps : List (Unit {0} × ℕ)) → m ≡ n + length ps → CountsFrom n ps → CountsFrom n (ps ++ (tt, m) ∷ [])
 counts_more n m [] e c = (omega arith, tt)
