@@ -1,5 +1,5 @@
 -- What a sink holds after several pieces.
-use Rattle.std.proofs.Common.{◌≡◌, ℕ, ◌+◌, ◌*◌, ◌<◌, ◌≤◌, List, [], ◌∷◌, ◌++◌, length, take, drop, get_or, sym, ap, ◌∙◌, arith, length-append, length-take-le}
+use Rattle.std.proofs.Common.{◌≡◌, ℕ, ◌+◌, ◌*◌, ◌<◌, ◌≤◌, List, [], ◌∷◌, ◌++◌, length, take, drop, get_or, refl, sym, ap, ◌∙◌, arith, length-append, length-take-le}
 use Rattle.std.specs.List.{flat_map}
 use Rattle.std.proofs.Math.Nat.{mul-le-mul_right}
 use Rattle.std.proofs.lemmas.List.{take-append-drop, append-nil}
@@ -65,3 +65,15 @@ first_claimed {S} after longer h width wide s into xs front back at n t now u le
     ap (flat_map h) (sym (take-append-drop n xs)) ∙ flat_map-append h (take n xs) (drop n xs) ∙ ap (λ (l : List _). flat_map h l ++ flat_map h (drop n xs)) (sym f) ∙ ap (λ (l : List _). bytes ++ flat_map h l) (sym is) in
     let beside : List ℕ → S × List ℕ = λ l. (t, l) in
     two after longer s into bytes (flat_map h back) (beside now) u (ap beside w ∙ sym (a bytes fits)) b ∙ ap (after s into) (sym all)
+
+-- a piece that is written just behind another
+pub spliced_next : (into : List ℕ) (at place : ℕ) (p q now next : List ℕ) → at + length p ≤ length into → place ≡ at + length p → now ≡ splice into at p → next ≡ splice now place q → next ≡ splice into at (p ++ q)
+spliced_next into at place p q now next fits there a b =
+    b ∙ ap (λ (l : List ℕ). splice l place q) a ∙ ap (λ (n : ℕ). splice (splice into at p) n q) there ∙ splice_both into at p q fits
+
+-- two pieces that were placed as one, and written
+pub placed_both : {S : Type 0} (after : Takes S) (s t : S) (into : List ℕ) (at : ℕ) (p q now next : List ℕ) → at + length p ≤ length into → after s into (p ++ q) ≡ (t, splice into at (p ++ q)) →
+    now ≡ splice into at p → next ≡ splice now (at + length p) q → (t, next) ≡ after s into (p ++ q)
+placed_both {S} after s t into at p q now next fits placed a b =
+    let beside : List ℕ → S × List ℕ = λ l. (t, l) in
+    ap beside (spliced_next into at (at + length p) p q now next fits refl a b) ∙ sym placed

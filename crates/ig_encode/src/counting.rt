@@ -1,6 +1,6 @@
 //! Counting as a sink.
 
-ghost use Rattle.std.specs.Prelude.{◌≡◌, ◌*◌, ◌<◌, ◌≤◌, List, ℕ, length, IsTrue};
+ghost use Rattle.std.specs.Prelude.{◌≡◌, ◌*◌, ◌<◌, ◌≤◌, ◌+◌, List, ℕ, length, IsTrue, IsFalse, IfSome, IsNone};
 ghost use Rattle.ig_encode.specs.Counting.{counted, counted_empty, counted_longer};
 
 use crate::length::Length;
@@ -15,6 +15,15 @@ impl Sink for Length {
 
     fn put(&mut self, _into: &mut [u8], bytes: &[u8]) {
         self.bytes = self.bytes.saturating_add(bytes.len() as u128);
+    }
+
+    fn count(&mut self, more: usize) -> bool {
+        self.bytes = self.bytes.saturating_add(more as u128);
+        true
+    }
+
+    fn place(&mut self, _room: usize, _more: usize) -> Option<usize> {
+        None
     }
 
     fn pass(&mut self, _into: &[u8], width: usize, count: usize) -> usize {

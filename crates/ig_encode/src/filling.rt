@@ -1,6 +1,6 @@
 //! Filling a slice as a sink.
 
-ghost use Rattle.std.specs.Prelude.{◌≡◌, ◌+◌, ◌-◌, ◌*◌, ◌<◌, ◌≤◌, List, ℕ, length, min, IsTrue};
+ghost use Rattle.std.specs.Prelude.{◌≡◌, ◌+◌, ◌-◌, ◌*◌, ◌<◌, ◌≤◌, List, ℕ, length, min, IsTrue, IsFalse, IfSome, IsNone};
 ghost use Rattle.ig_encode.specs.Filling.{filled, filled_empty, filled_longer};
 
 use crate::part::Part;
@@ -22,6 +22,20 @@ impl Sink for Part {
         } else {
             put_some(self, into, bytes);
         }
+    }
+
+    fn count(&mut self, _more: usize) -> bool {
+        false
+    }
+
+    #[inline(always)]
+    fn place(&mut self, room: usize, more: usize) -> Option<usize> {
+        let at = self.filled;
+        if self.skip > 0 || room < at || room - at < more {
+            return None;
+        }
+        self.filled = at + more;
+        Some(at)
     }
 
     fn pass(&mut self, into: &[u8], width: usize, count: usize) -> usize {
