@@ -58,7 +58,7 @@ impl Sink for Part {
     }
 
     fn is_full(&self, into: &[u8]) -> bool {
-        self.skip == 0 && into.len() <= self.filled
+        into.len() <= self.filled && self.skip == 0
     }
 }
 
