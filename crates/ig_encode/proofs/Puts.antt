@@ -71,9 +71,8 @@ pub spliced_next : (into : List ℕ) (at place : ℕ) (p q now next : List ℕ) 
 spliced_next into at place p q now next fits there a b =
     b ∙ ap (λ (l : List ℕ). splice l place q) a ∙ ap (λ (n : ℕ). splice (splice into at p) n q) there ∙ splice_both into at p q fits
 
--- two pieces that were placed as one, and written
-pub placed_both : {S : Type 0} (after : Takes S) (s t : S) (into : List ℕ) (at : ℕ) (p q now next : List ℕ) → at + length p ≤ length into → after s into (p ++ q) ≡ (t, splice into at (p ++ q)) →
-    now ≡ splice into at p → next ≡ splice now (at + length p) q → (t, next) ≡ after s into (p ++ q)
-placed_both {S} after s t into at p q now next fits placed a b =
+-- bytes that were placed, and written
+pub placed : {S : Type 0} (after : Takes S) (s r t : S) (into : List ℕ) (at : ℕ) (bytes now : List ℕ) → r ≡ s → after r into bytes ≡ (t, splice into at bytes) → now ≡ splice into at bytes → (t, now) ≡ after s into bytes
+placed {S} after s r t into at bytes now same a w =
     let beside : List ℕ → S × List ℕ = λ l. (t, l) in
-    ap beside (spliced_next into at (at + length p) p q now next fits refl a b) ∙ sym placed
+    ap beside w ∙ sym a ∙ ap (λ (x : S). after x into bytes) same

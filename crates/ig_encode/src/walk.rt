@@ -11,7 +11,7 @@ ghost use Rattle.ig_encode.specs.Lists.{array_bytes, kinded_bytes, pair_bytes};
 
 use crate::heads::{Count, Kinded};
 use crate::sink::Sink;
-use crate::spell::{Element, Spell, put_count};
+use crate::spell::{Element, Spell, put_count, write_count};
 use crate::splice::copy_at;
 use ig_base::Text;
 use ig_value::{Code, Value};
@@ -129,9 +129,21 @@ fn put_text<S: Sink>(code: Code, text: &Text, out: &mut S, into: &mut [u8])
     ensures { (out.new, into.new) ≡ S.after out.old into.old (byte_of code ∷ counted_bytes text.now) }
 {
     let bytes = text.as_str().as_bytes();
-    let count = Count { items: bytes.len() };
-    put_scalar(code, &count, out, into);
-    out.put(into, bytes);
+    let Some(width) = bytes.len().checked_add(5) else {
+        put_row(code, text, out, into);
+        return;
+    };
+    if out.count(width) {
+        return;
+    }
+    match out.place(into.len(), width) {
+        Some(at) => {
+            copy_at(into, at, &[code.byte()]);
+            write_count(bytes.len(), into, at + 1);
+            copy_at(into, at + 5, bytes);
+        }
+        None => put_row(code, text, out, into),
+    }
 }
 
 /// Puts a code, and a part behind it.
