@@ -238,8 +238,8 @@ fn put_optionals<T: Spell, S: Sink>(
 )
     ensures { (out.new, into.new) ≡ S.after out.old into.old (byte_of code ∷ array_bytes (optional_bytes (byte_of inner) T.bytes) parts.now) }
 {
-    put_code(code, out, into);
-    put_count(parts.len(), out, into);
+    let count = Count { items: parts.len() };
+    put_scalar(code, &count, out, into);
     put_each_optional(inner, parts, out, into);
 }
 

@@ -1,4 +1,4 @@
-use Rattle.std.proofs.Common.{refl, pos, length, ◌≡◌, ◌+◌, arith}
+use Rattle.std.proofs.Common.{pos, length, ◌≡◌, ◌+◌, arith}
 use Rattle.std.specs.Int.{w8, w32}
 use Rattle.ig_base.specs.Numbers.{LE}
 use Rattle.ig_encode.specs.Heads.{wide_count}
