@@ -12,7 +12,7 @@ pub(crate) trait Sink {
     fn put(&mut self, into: &mut [u8], bytes: &[u8])
         ensures { (self.new, into.new) ≡ after self.old into.old bytes.now };
 
-    /// Takes so many bytes without looking at them, if it looks at none. Answers whether it did.
+    /// Takes so many bytes without seeing them, where it needs no byte's value. Answers whether it took them.
     fn count(&mut self, more: usize) -> bool
         ensures counted { IsTrue result → (into bytes : List ℕ) → length bytes ≡ more → after self.old into bytes ≡ (self.new, into) }
         ensures unchanged { IsFalse result → self.new ≡ self.old };
