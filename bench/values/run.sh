@@ -6,7 +6,8 @@ top=$(cd "$(dirname "$0")/../.." && pwd)
 rounds=${1:-200}
 work=$(mktemp -d)
 trap 'rm -rf "$work"' EXIT
-rustc --edition 2021 -O -o "$work/yardstick" "$top/bench/values/yardstick.rs"
+# By a path that is the same everywhere: it is written into the program, and moves its times by up to 15%.
+(cd "$top" && rustc --edition 2021 -O -o "$work/yardstick" bench/values/yardstick.rs)
 (cd "$top/crates/value_bench" && rt run -- 1 >"$work/build" 2>&1) || { cat "$work/build"; exit 1; }
 cp "$top/crates/value_bench/out/value_bench" "$work/values"
 

@@ -65,3 +65,14 @@ first_claimed {S} after longer h width wide s into xs front back at n t now u le
     ap (flat_map h) (sym (take-append-drop n xs)) ∙ flat_map-append h (take n xs) (drop n xs) ∙ ap (λ (l : List _). flat_map h l ++ flat_map h (drop n xs)) (sym f) ∙ ap (λ (l : List _). bytes ++ flat_map h l) (sym is) in
     let beside : List ℕ → S × List ℕ = λ l. (t, l) in
     two after longer s into bytes (flat_map h back) (beside now) u (ap beside w ∙ sym (a bytes fits)) b ∙ ap (after s into) (sym all)
+
+-- a piece that is written just behind another
+pub spliced_next : (into : List ℕ) (at place : ℕ) (p q now next : List ℕ) → at + length p ≤ length into → place ≡ at + length p → now ≡ splice into at p → next ≡ splice now place q → next ≡ splice into at (p ++ q)
+spliced_next into at place p q now next fits there a b =
+    b ∙ ap (λ (l : List ℕ). splice l place q) a ∙ ap (λ (n : ℕ). splice (splice into at p) n q) there ∙ splice_both into at p q fits
+
+-- bytes that were placed, and written
+pub placed : {S : Type 0} (after : Takes S) (s r t : S) (into : List ℕ) (at : ℕ) (bytes now : List ℕ) → r ≡ s → after r into bytes ≡ (t, splice into at bytes) → now ≡ splice into at bytes → (t, now) ≡ after s into bytes
+placed {S} after s r t into at bytes now same a w =
+    let beside : List ℕ → S × List ℕ = λ l. (t, l) in
+    ap beside w ∙ sym a ∙ ap (λ (x : S). after x into bytes) same

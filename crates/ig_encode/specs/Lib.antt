@@ -3,4 +3,5 @@ pub mod Counting
 pub mod Filling
 pub mod Widths
 pub mod Lists
+pub mod Heads
 pub mod RoundTrip

@@ -19,7 +19,7 @@ pub fn canonical_len(value: &Value) -> u128
     let mut count = Length::new();
     let mut none = [0u8; 0];
     put_value(value, &mut count, &mut none);
-    count.bytes
+    count.total()
 }
 
 /// Fills the slice with the canonical form from a place on, and answers how many bytes it filled: the slice's length, or

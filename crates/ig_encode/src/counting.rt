@@ -1,7 +1,7 @@
 //! Counting as a sink.
 
-ghost use Rattle.std.specs.Prelude.{◌≡◌, ◌*◌, ◌<◌, ◌≤◌, List, ℕ, length, IsTrue};
-ghost use Rattle.ig_encode.specs.Counting.{counted, counted_empty, counted_longer};
+ghost use Rattle.std.specs.Prelude.{◌≡◌, ◌*◌, ◌<◌, ◌≤◌, ◌+◌, ◌-◌, ◌^◌, List, ℕ, length, IsTrue, IsFalse, IfSome, IsNone};
+ghost use Rattle.ig_encode.specs.Counting.{counted, counted_empty, counted_longer, grown};
 
 use crate::length::Length;
 use crate::sink::Sink;
@@ -14,11 +14,20 @@ impl Sink for Length {
     ghost longer = { counted_longer };
 
     fn put(&mut self, _into: &mut [u8], bytes: &[u8]) {
-        self.bytes = self.bytes.saturating_add(bytes.len() as u128);
+        grow(self, bytes.len());
+    }
+
+    fn count(&mut self, more: usize) -> bool {
+        grow(self, more);
+        true
+    }
+
+    fn place(&mut self, _room: usize, _more: usize) -> Option<usize> {
+        None
     }
 
     fn pass(&mut self, _into: &[u8], width: usize, count: usize) -> usize {
-        self.bytes = self.bytes.saturating_add(width as u128 * count as u128);
+        carry(self, width as u128 * count as u128);
         count
     }
 
@@ -29,4 +38,26 @@ impl Sink for Length {
     fn is_full(&self, _into: &[u8]) -> bool {
         false
     }
+}
+
+/// Counts so many bytes more.
+#[inline(always)]
+fn grow(count: &mut Length, more: usize)
+    ensures { count.new ≡ grown count.old more }
+{
+    match count.low.checked_add(more as u64) {
+        Some(low) => count.low = low,
+        None => carry(count, more as u128),
+    }
+}
+
+/// Counts so many bytes more, which may carry.
+#[inline(never)]
+fn carry(count: &mut Length, more: u128)
+    requires { more ≤ 2 ^ 128 - 2 ^ 64 }
+    ensures { count.new ≡ grown count.old more }
+{
+    let sum = count.low as u128 + more;
+    count.low = (sum % 18_446_744_073_709_551_616) as u64;
+    count.high = count.high.saturating_add(sum / 18_446_744_073_709_551_616);
 }

@@ -1,6 +1,6 @@
 //! Filling a slice as a sink.
 
-ghost use Rattle.std.specs.Prelude.{◌≡◌, ◌+◌, ◌-◌, ◌*◌, ◌<◌, ◌≤◌, List, ℕ, length, min, IsTrue};
+ghost use Rattle.std.specs.Prelude.{◌≡◌, ◌+◌, ◌-◌, ◌*◌, ◌<◌, ◌≤◌, List, ℕ, length, min, IsTrue, IsFalse, IfSome, IsNone};
 ghost use Rattle.ig_encode.specs.Filling.{filled, filled_empty, filled_longer};
 
 use crate::part::Part;
@@ -24,6 +24,20 @@ impl Sink for Part {
         }
     }
 
+    fn count(&mut self, _more: usize) -> bool {
+        false
+    }
+
+    #[inline(always)]
+    fn place(&mut self, room: usize, more: usize) -> Option<usize> {
+        let at = self.filled;
+        if self.skip > 0 || room < at || room - at < more {
+            return None;
+        }
+        self.filled = at + more;
+        Some(at)
+    }
+
     fn pass(&mut self, into: &[u8], width: usize, count: usize) -> usize {
         if self.is_full(into) {
             return count;
@@ -44,7 +58,7 @@ impl Sink for Part {
     }
 
     fn is_full(&self, into: &[u8]) -> bool {
-        self.skip == 0 && into.len() <= self.filled
+        into.len() <= self.filled && self.skip == 0
     }
 }
 

@@ -8,10 +8,12 @@
 mod calls;
 mod counting;
 mod filling;
+mod heads;
 mod length;
 mod part;
 mod sink;
 mod spell;
+mod spell_heads;
 mod splice;
 mod walk;
 

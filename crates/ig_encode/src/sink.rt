@@ -1,6 +1,6 @@
 //! Where the bytes of a value go.
 
-ghost use Rattle.std.specs.Prelude.{◌≡◌, ◌+◌, ◌*◌, ◌<◌, ◌≤◌, List, [], ◌++◌, ℕ, length, IsTrue};
+ghost use Rattle.std.specs.Prelude.{◌≡◌, ◌+◌, ◌*◌, ◌<◌, ◌≤◌, List, [], ◌++◌, ℕ, length, IsTrue, IsFalse, IfSome, IsNone};
 ghost use Rattle.ig_encode.specs.Splice.{splice};
 
 /// What takes the bytes of a value in their order, and may put some of them into a slice.
@@ -11,6 +11,18 @@ pub(crate) trait Sink {
     /// Takes the next bytes.
     fn put(&mut self, into: &mut [u8], bytes: &[u8])
         ensures { (self.new, into.new) ≡ after self.old into.old bytes.now };
+
+    /// Takes so many bytes without seeing them, where it needs no byte's value. Answers whether it took them.
+    fn count(&mut self, more: usize) -> bool
+        ensures counted { IsTrue result → (into bytes : List ℕ) → length bytes ≡ more → after self.old into bytes ≡ (self.new, into) }
+        ensures unchanged { IsFalse result → self.new ≡ self.old };
+
+    /// Takes so many bytes, which the caller puts into the slice itself, if there is room for all of them. Answers where
+    /// they go.
+    fn place(&mut self, room: usize, more: usize) -> Option<usize>
+        ensures fits { IfSome result (λ at. at + more ≤ room) }
+        ensures placed { IfSome result (λ at. (into bytes : List ℕ) → length into ≡ room → length bytes ≡ more → after self.old into bytes ≡ (self.new, splice into at bytes)) }
+        ensures none { IsNone result → self.new ≡ self.old };
 
     /// Takes the bytes of the first of so many items, each of this width, without looking at them. Answers how many items
     /// these are.

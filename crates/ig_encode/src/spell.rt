@@ -32,7 +32,8 @@ pub(crate) trait Element: Spell {
     /// How many bytes.
     fn width() -> usize
         ensures count { result ≡ byte_count }
-        ensures some { 0 < result };
+        ensures some { 0 < result }
+        ensures small { result ≤ 8 };
 
     /// Writes its bytes at a place.
     fn write_at(&self, into: &mut [u8], at: usize)
@@ -291,6 +292,17 @@ pub(crate) fn put_count<S: Sink>(count: usize, out: &mut S, into: &mut [u8])
 {
     let bytes = count.to_le_bytes();
     out.put(into, &bytes[..4]);
+}
+
+/// Writes an Int32 count at a place.
+#[tactic(auto, unfolding(ig_base::specs::Numbers::LE))]
+#[inline(always)]
+pub(crate) fn write_count(count: usize, into: &mut [u8], at: usize)
+    requires { at + 4 ≤ length into.old }
+    ensures { into.new ≡ spliced into.old at (LE w32 (pos count)) }
+{
+    let bytes = count.to_le_bytes();
+    copy_at(into, at, &bytes[..4]);
 }
 
 /// Puts an Int32 count and the bytes.

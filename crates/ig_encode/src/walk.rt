@@ -5,12 +5,15 @@ ghost use Rattle.std.specs.Int.{w8, w32};
 ghost use Rattle.std.specs.List.{flat_map};
 ghost use Rattle.ig_base.specs.Numbers.{LE};
 ghost use Rattle.ig_value.specs.Table.{byte_of};
-ghost use Rattle.ig_value.specs.Canon.{Canon, optional_bytes};
+ghost use Rattle.ig_value.specs.Canon.{Canon, counted_bytes, optional_bytes};
 ghost use Rattle.ig_encode.specs.Splice.{splice};
 ghost use Rattle.ig_encode.specs.Lists.{array_bytes, kinded_bytes, pair_bytes};
 
+use crate::heads::{Count, Kinded};
 use crate::sink::Sink;
-use crate::spell::{Element, Spell, put_count};
+use crate::spell::{Element, Spell, put_count, write_count};
+use crate::splice::copy_at;
+use ig_base::Text;
 use ig_value::{Code, Value};
 
 /// Puts the canonical form of the value.
@@ -19,17 +22,17 @@ pub(crate) fn put_value<S: Sink>(value: &Value, out: &mut S, into: &mut [u8])
     ensures { (out.new, into.new) ≡ S.after out.old into.old (Canon value.now) }
 {
     match value {
-        Value::Byte(x) => put_row(Code::Byte, x, out, into),
-        Value::Short(x) => put_row(Code::Short, x, out, into),
-        Value::Int(x) => put_row(Code::Int, x, out, into),
-        Value::Long(x) => put_row(Code::Long, x, out, into),
-        Value::Float(x) => put_row(Code::Float, x, out, into),
-        Value::Double(x) => put_row(Code::Double, x, out, into),
-        Value::Char(x) => put_row(Code::Char, x, out, into),
-        Value::Bool(x) => put_row(Code::Bool, x, out, into),
-        Value::Str(x) => put_row(Code::Str, x, out, into),
+        Value::Byte(x) => put_scalar(Code::Byte, x, out, into),
+        Value::Short(x) => put_scalar(Code::Short, x, out, into),
+        Value::Int(x) => put_scalar(Code::Int, x, out, into),
+        Value::Long(x) => put_scalar(Code::Long, x, out, into),
+        Value::Float(x) => put_scalar(Code::Float, x, out, into),
+        Value::Double(x) => put_scalar(Code::Double, x, out, into),
+        Value::Char(x) => put_scalar(Code::Char, x, out, into),
+        Value::Bool(x) => put_scalar(Code::Bool, x, out, into),
+        Value::Str(x) => put_text(Code::Str, x, out, into),
         Value::Uuid(x) => put_row(Code::Uuid, x, out, into),
-        Value::Date(x) => put_row(Code::Date, x, out, into),
+        Value::Date(x) => put_scalar(Code::Date, x, out, into),
         Value::Bytes(xs) => put_array(Code::Bytes, xs.as_slice(), out, into),
         Value::Shorts(xs) => put_array(Code::Shorts, xs.as_slice(), out, into),
         Value::Ints(xs) => put_array(Code::Ints, xs.as_slice(), out, into),
@@ -81,7 +84,7 @@ pub(crate) fn put_value<S: Sink>(value: &Value, out: &mut S, into: &mut [u8])
             out,
             into,
         ),
-        Value::Time(x) => put_row(Code::Time, x, out, into),
+        Value::Time(x) => put_scalar(Code::Time, x, out, into),
         Value::Times(xs) => put_optionals(Code::Times, Code::Time, xs.as_slice(), out, into),
         Value::BinaryEnum { type_id, ordinal } => put_both(
             Code::BinaryEnum,
@@ -100,6 +103,47 @@ fn put_code<S: Sink>(code: Code, out: &mut S, into: &mut [u8])
     ensures { (out.new, into.new) ≡ S.after out.old into.old (byte_of code ∷ []) }
 {
     out.put(into, &[code.byte()]);
+}
+
+/// Puts a code, and an element behind it: with one look at the room, where there is room for both.
+#[inline(always)]
+fn put_scalar<E: Element, S: Sink>(code: Code, element: &E, out: &mut S, into: &mut [u8])
+    ensures { (out.new, into.new) ≡ S.after out.old into.old (byte_of code ∷ E.Spell.bytes element.now) }
+{
+    let width = 1 + E::width();
+    if out.count(width) {
+        return;
+    }
+    match out.place(into.len(), width) {
+        Some(at) => {
+            copy_at(into, at, &[code.byte()]);
+            element.write_at(into, at + 1);
+        }
+        None => put_row(code, element, out, into),
+    }
+}
+
+/// Puts a code, and a text behind it.
+#[inline(never)]
+fn put_text<S: Sink>(code: Code, text: &Text, out: &mut S, into: &mut [u8])
+    ensures { (out.new, into.new) ≡ S.after out.old into.old (byte_of code ∷ counted_bytes text.now) }
+{
+    let bytes = text.as_str().as_bytes();
+    let Some(width) = bytes.len().checked_add(5) else {
+        put_row(code, text, out, into);
+        return;
+    };
+    if out.count(width) {
+        return;
+    }
+    match out.place(into.len(), width) {
+        Some(at) => {
+            copy_at(into, at, &[code.byte()]);
+            write_count(bytes.len(), into, at + 1);
+            copy_at(into, at + 5, bytes);
+        }
+        None => put_row(code, text, out, into),
+    }
 }
 
 /// Puts a code, and a part behind it.
@@ -132,8 +176,10 @@ fn put_both<T: Spell, U: Spell, S: Sink>(
 fn put_array<E: Element, S: Sink>(code: Code, elements: &[E], out: &mut S, into: &mut [u8])
     ensures { (out.new, into.new) ≡ S.after out.old into.old (byte_of code ∷ array_bytes E.Spell.bytes elements.now) }
 {
-    put_code(code, out, into);
-    put_count(elements.len(), out, into);
+    let count = Count {
+        items: elements.len(),
+    };
+    put_scalar(code, &count, out, into);
     put_elements(elements, out, into);
 }
 
@@ -192,8 +238,8 @@ fn put_optionals<T: Spell, S: Sink>(
 )
     ensures { (out.new, into.new) ≡ S.after out.old into.old (byte_of code ∷ array_bytes (optional_bytes (byte_of inner) T.bytes) parts.now) }
 {
-    put_code(code, out, into);
-    put_count(parts.len(), out, into);
+    let count = Count { items: parts.len() };
+    put_scalar(code, &count, out, into);
     put_each_optional(inner, parts, out, into);
 }
 
@@ -241,9 +287,11 @@ fn put_typed<S: Sink>(code: Code, type_id: &i32, values: &[Value], out: &mut S, 
 fn put_collection<S: Sink>(code: Code, kind: &i8, values: &[Value], out: &mut S, into: &mut [u8])
     ensures { (out.new, into.new) ≡ S.after out.old into.old (byte_of code ∷ kinded_bytes Canon kind.now values.now) }
 {
-    put_code(code, out, into);
-    put_count(values.len(), out, into);
-    kind.put(out, into);
+    let kinded = Kinded {
+        items: values.len(),
+        kind: *kind,
+    };
+    put_scalar(code, &kinded, out, into);
     put_values(values, out, into);
 }
 
@@ -253,9 +301,11 @@ fn put_collection<S: Sink>(code: Code, kind: &i8, values: &[Value], out: &mut S,
 fn put_map<S: Sink>(code: Code, kind: &i8, pairs: &[(Value, Value)], out: &mut S, into: &mut [u8])
     ensures { (out.new, into.new) ≡ S.after out.old into.old (byte_of code ∷ kinded_bytes pair_bytes kind.now pairs.now) }
 {
-    put_code(code, out, into);
-    put_count(pairs.len(), out, into);
-    kind.put(out, into);
+    let kinded = Kinded {
+        items: pairs.len(),
+        kind: *kind,
+    };
+    put_scalar(code, &kinded, out, into);
     put_pairs(pairs, out, into);
 }
 

@@ -36,7 +36,7 @@ fn small(alloc: Global, i: i32) -> Result<Value> {
 }
 
 fn list(alloc: Global, size: i32) -> Result<Value> {
-    let mut items = Vec::new(alloc);
+    let mut items = Vec::with_capacity(alloc, usize::try_from(size).unwrap_or(0))?;
     for i in 0..size {
         items.push(small(alloc, i)?)?;
     }
@@ -45,7 +45,7 @@ fn list(alloc: Global, size: i32) -> Result<Value> {
 }
 
 fn nested(alloc: Global, size: i32) -> Result<Value> {
-    let mut items = Vec::new(alloc);
+    let mut items = Vec::with_capacity(alloc, usize::try_from(size).unwrap_or(0))?;
     for _ in 0..size {
         items.push(list(alloc, 5)?)?;
     }
@@ -54,7 +54,7 @@ fn nested(alloc: Global, size: i32) -> Result<Value> {
 }
 
 fn map(alloc: Global, size: i32) -> Result<Value> {
-    let mut pairs = Vec::new(alloc);
+    let mut pairs = Vec::with_capacity(alloc, usize::try_from(size).unwrap_or(0))?;
     for i in 0..size {
         pairs.push((Value::Int(i), small(alloc, i)?))?;
     }

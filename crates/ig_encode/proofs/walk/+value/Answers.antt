@@ -10,47 +10,47 @@ use Rattle.ig_encode.proofs.walk.+value.Goals as goal
 
 pub put_value-returns-in-Byte : goal.put_value-returns-in-Byte
 put_value-returns-in-Byte g t c =
-    c.put_row.ensures ∙ ap (g.S.Sink.after c.args.out.now c.args.into.now) (sym (Canon_row c.args.value.now code.Byte c.in-Byte.x c.in-Byte.is))
+    c.put_scalar.ensures ∙ ap (g.S.Sink.after c.args.out.now c.args.into.now) (sym (Canon_row c.args.value.now code.Byte c.in-Byte.x c.in-Byte.is))
 
 pub put_value-returns-in-Short : goal.put_value-returns-in-Short
 put_value-returns-in-Short g t c =
-    c.put_row-in-Short.ensures ∙ ap (g.S.Sink.after c.args.out.now c.args.into.now) (sym (Canon_row c.args.value.now code.Short c.in-Short.x c.in-Short.is))
+    c.put_scalar-in-Short.ensures ∙ ap (g.S.Sink.after c.args.out.now c.args.into.now) (sym (Canon_row c.args.value.now code.Short c.in-Short.x c.in-Short.is))
 
 pub put_value-returns-in-Int : goal.put_value-returns-in-Int
 put_value-returns-in-Int g t c =
-    c.put_row-in-Int.ensures ∙ ap (g.S.Sink.after c.args.out.now c.args.into.now) (sym (Canon_row c.args.value.now code.Int c.in-Int.x c.in-Int.is))
+    c.put_scalar-in-Int.ensures ∙ ap (g.S.Sink.after c.args.out.now c.args.into.now) (sym (Canon_row c.args.value.now code.Int c.in-Int.x c.in-Int.is))
 
 pub put_value-returns-in-Long : goal.put_value-returns-in-Long
 put_value-returns-in-Long g t c =
-    c.put_row-in-Long.ensures ∙ ap (g.S.Sink.after c.args.out.now c.args.into.now) (sym (Canon_row c.args.value.now code.Long c.in-Long.x c.in-Long.is))
+    c.put_scalar-in-Long.ensures ∙ ap (g.S.Sink.after c.args.out.now c.args.into.now) (sym (Canon_row c.args.value.now code.Long c.in-Long.x c.in-Long.is))
 
 pub put_value-returns-in-Float : goal.put_value-returns-in-Float
 put_value-returns-in-Float g t c =
-    c.put_row-in-Float.ensures ∙ ap (g.S.Sink.after c.args.out.now c.args.into.now) (sym (Canon_row c.args.value.now code.Float c.in-Float.x c.in-Float.is))
+    c.put_scalar-in-Float.ensures ∙ ap (g.S.Sink.after c.args.out.now c.args.into.now) (sym (Canon_row c.args.value.now code.Float c.in-Float.x c.in-Float.is))
 
 pub put_value-returns-in-Double : goal.put_value-returns-in-Double
 put_value-returns-in-Double g t c =
-    c.put_row-in-Double.ensures ∙ ap (g.S.Sink.after c.args.out.now c.args.into.now) (sym (Canon_row c.args.value.now code.Double c.in-Double.x c.in-Double.is))
+    c.put_scalar-in-Double.ensures ∙ ap (g.S.Sink.after c.args.out.now c.args.into.now) (sym (Canon_row c.args.value.now code.Double c.in-Double.x c.in-Double.is))
 
 pub put_value-returns-in-Char : goal.put_value-returns-in-Char
 put_value-returns-in-Char g t c =
-    c.put_row-in-Char.ensures ∙ ap (g.S.Sink.after c.args.out.now c.args.into.now) (sym (Canon_row c.args.value.now code.Char c.in-Char.x c.in-Char.is))
+    c.put_scalar-in-Char.ensures ∙ ap (g.S.Sink.after c.args.out.now c.args.into.now) (sym (Canon_row c.args.value.now code.Char c.in-Char.x c.in-Char.is))
 
 pub put_value-returns-in-Bool : goal.put_value-returns-in-Bool
 put_value-returns-in-Bool g t c =
-    c.put_row-in-Bool.ensures ∙ ap (g.S.Sink.after c.args.out.now c.args.into.now) (sym (Canon_row c.args.value.now code.Bool c.in-Bool.x c.in-Bool.is))
+    c.put_scalar-in-Bool.ensures ∙ ap (g.S.Sink.after c.args.out.now c.args.into.now) (sym (Canon_row c.args.value.now code.Bool c.in-Bool.x c.in-Bool.is))
 
 pub put_value-returns-in-Str : goal.put_value-returns-in-Str
 put_value-returns-in-Str g t c =
-    c.put_row-in-Str.ensures ∙ ap (g.S.Sink.after c.args.out.now c.args.into.now) (sym (Canon_row c.args.value.now code.Str c.in-Str.x c.in-Str.is))
+    c.put_text.ensures ∙ ap (g.S.Sink.after c.args.out.now c.args.into.now) (sym (Canon_row c.args.value.now code.Str c.in-Str.x c.in-Str.is))
 
 pub put_value-returns-in-Uuid : goal.put_value-returns-in-Uuid
 put_value-returns-in-Uuid g t c =
-    c.put_row-in-Uuid.ensures ∙ ap (g.S.Sink.after c.args.out.now c.args.into.now) (sym (Canon_row c.args.value.now code.Uuid c.in-Uuid.x c.in-Uuid.is))
+    c.put_row.ensures ∙ ap (g.S.Sink.after c.args.out.now c.args.into.now) (sym (Canon_row c.args.value.now code.Uuid c.in-Uuid.x c.in-Uuid.is))
 
 pub put_value-returns-in-Date : goal.put_value-returns-in-Date
 put_value-returns-in-Date g t c =
-    c.put_row-in-Date.ensures ∙ ap (g.S.Sink.after c.args.out.now c.args.into.now) (sym (Canon_row c.args.value.now code.Date c.in-Date.x c.in-Date.is))
+    c.put_scalar-in-Date.ensures ∙ ap (g.S.Sink.after c.args.out.now c.args.into.now) (sym (Canon_row c.args.value.now code.Date c.in-Date.x c.in-Date.is))
 
 pub put_value-returns-in-Bytes : goal.put_value-returns-in-Bytes
 put_value-returns-in-Bytes g t c =
@@ -155,7 +155,7 @@ put_value-returns-in-Timestamps g t c =
 
 pub put_value-returns-in-Time : goal.put_value-returns-in-Time
 put_value-returns-in-Time g t c =
-    c.put_row-in-Time.ensures ∙ ap (g.S.Sink.after c.args.out.now c.args.into.now) (sym (Canon_row c.args.value.now code.Time c.in-Time.x c.in-Time.is))
+    c.put_scalar-in-Time.ensures ∙ ap (g.S.Sink.after c.args.out.now c.args.into.now) (sym (Canon_row c.args.value.now code.Time c.in-Time.x c.in-Time.is))
 
 pub put_value-returns-in-Times : goal.put_value-returns-in-Times
 put_value-returns-in-Times g t c =
