@@ -20,7 +20,7 @@ abbrev pub Halts : {A : Type 0} → List ℕ → Unread → Read A → Type 0
 Halts body (At place) read = StopsAt body place read
 Halts body NoMemory read = Unit {0}
 
--- a value that was read keeps to the limits, and its canonical form is no longer than what it was read from
+-- a value that was read keeps to the limits, and the length of its canonical form is an Int32
 abbrev pub IsRead : Value → Type 0
 IsRead v = Fits v × IsSendable v
 

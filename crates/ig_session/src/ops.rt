@@ -119,7 +119,7 @@ fn put_fields(alloc: Global, body: &[u8]) -> Result<(i32, Value, Value), Unread>
 }
 
 /// Whether a value is null.
-fn is_no_value(value: &Value) -> bool
+fn is_null_value(value: &Value) -> bool
     ensures { result ≡ is_null value.now }
 {
     matches!(value, Value::Null)
@@ -136,7 +136,7 @@ fn read_get(alloc: Global, body: &[u8]) -> Result<Ask, NoMemory>
         Err(Unread::NoMemory) => Err(NoMemory),
         Err(Unread::At(place)) => Ok(Ask::Refuse(Refusal::Malformed { place: 4 + place })),
         Ok((cache, key)) => {
-            if is_no_value(&key) {
+            if is_null_value(&key) {
                 return Ok(Ask::Refuse(Refusal::NullKeyOrValue));
             }
             Ok(Ask::Run(Call::Get { cache, key }))
@@ -155,10 +155,10 @@ fn read_put(alloc: Global, body: &[u8]) -> Result<Ask, NoMemory>
         Err(Unread::NoMemory) => Err(NoMemory),
         Err(Unread::At(place)) => Ok(Ask::Refuse(Refusal::Malformed { place: 4 + place })),
         Ok((cache, key, value)) => {
-            if is_no_value(&key) {
+            if is_null_value(&key) {
                 return Ok(Ask::Refuse(Refusal::NullKeyOrValue));
             }
-            if is_no_value(&value) {
+            if is_null_value(&value) {
                 return Ok(Ask::Refuse(Refusal::NullKeyOrValue));
             }
             Ok(Ask::Run(Call::Put { cache, key, value }))

@@ -3,7 +3,7 @@
 ghost use Rattle.std.specs.Prelude.{◌≡◌};
 ghost use Rattle.ig_value.specs.Table.{byte_of, code_at};
 
-/// What the byte before a value says of it.
+/// What the byte before a value says of it. Each has the name of the variant of `Value` that it begins.
 #[derive(Clone, Copy, Debug, PartialEq, Eq)]
 pub enum Code {
     Byte = 1,
