@@ -1,4 +1,4 @@
--- Lemmas on frames and on how a stream falls into them.
+-- Lemmas on frames and on how a stream is cut into them.
 use Rattle.std.proofs.Common.{◌≡◌, ℕ, zero, suc, ◌+◌, ◌-◌, ◌≤◌, ℤ, pos, negsuc, ◌&&◌, List, [], ◌∷◌, ◌++◌, length, length-take-le, take, drop, Option, None, Some, refl, sym, ap, ◌∙◌, arith, subst, append_assoc, append-nil, inl, inr}
 use Rattle.std.proofs.lemmas.Bool.{le-ltb, lt-ltb, le-leb, leb-true, cond-true, cond-false, cases_Bool, cases_lt, and_from, and_parts}
 use Rattle.std.proofs.lemmas.Grind.{flat_map-append}
@@ -9,14 +9,14 @@ use Rattle.std.specs.Int.{w32}
 use Rattle.std.specs.Int.RustNames.{FitsSigned}
 use Rattle.std.specs.List.{flat_map, AllByRecursion}
 use Rattle.ig_base.specs.Numbers.{LE, number_at, AreBytes}
-use Rattle.ig_base.specs.Frames.{max_body, Frame, Side, least_after, IsBody, AreBodies, Begins, Front, Body, Bad, Part, front, front_from, front_sized, IsOutOfRange, IsCut, Cut}
+use Rattle.ig_base.specs.Frames.{max_body, Frame, Side, least_after, IsBody, AreBodies, Begins, Front, Body, Bad, Incomplete, front, front_from, front_sized, IsOutOfRange, HasNoFrame, Cut}
 use Rattle.ig_base.proofs.NumberLemmas.{length-LE_32, number_at-LE_32, LE-number_at_32, number_at-within}
 
 pub length-Frame : (body : List ℕ) → length (Frame body) ≡ 4 + length body
 unfolding Frame
 length-Frame body = length-append (LE w32 (pos (length body))) body ∙ ap (λ n. n + length body) (length-LE_32 (pos (length body)))
 
--- behind the length of a whole frame stand its body and what follows
+-- after the length of a whole frame come its body and what follows
 sized_whole : (body rest : List ℕ) → front_sized (length body) (body ++ rest) ≡ Body body rest
 sized_whole body rest =
     let long : length body ≤ length (body ++ rest) = omega (arith, length-append body rest) in
@@ -27,7 +27,7 @@ sized_whole body rest =
 in_range : (least n : ℕ) (bytes : List ℕ) → least ≤ n → n ≤ max_body → front_from least bytes (Some (pos n)) ≡ front_sized n (drop 4 bytes)
 in_range least n bytes low high = cond-true (nat_le least n && nat_le n max_body) _ _ (and_from _ _ (le-leb least n low) (le-leb n max_body high))
 
--- a frame is found whole, whatever follows it
+-- a frame is found, whatever follows it
 pub front-Frame : (least : ℕ) (body rest : List ℕ) → IsBody least body → front least (Frame body ++ rest) ≡ Body body rest
 unfolding front Frame
 front-Frame least body rest is =
@@ -43,15 +43,15 @@ front-Frame least body rest is =
 -- what is found as a frame is one
 sized_reads : (n : ℕ) (bytes body rest : List ℕ) → front_sized n bytes ≡ Body body rest → (length body ≡ n) × (bytes ≡ body ++ rest)
 sized_reads n bytes body rest h = elim (cases_lt (length bytes) n) [
-  | inl short ↦ let part = cond-true (nat_lt (length bytes) n) (Part (n - length bytes)) (Body (take n bytes) (drop n bytes)) (lt-ltb _ _ short) in cc
+  | inl short ↦ let part = cond-true (nat_lt (length bytes) n) (Incomplete (n - length bytes)) (Body (take n bytes) (drop n bytes)) (lt-ltb _ _ short) in cc
   | inr long ↦
-      let whole = cond-false (nat_lt (length bytes) n) (Part (n - length bytes)) (Body (take n bytes) (drop n bytes)) (le-ltb _ _ long) in
+      let whole = cond-false (nat_lt (length bytes) n) (Incomplete (n - length bytes)) (Body (take n bytes) (drop n bytes)) (le-ltb _ _ long) in
       let same : body ≡ take n bytes = cc in
       let after : rest ≡ drop n bytes = cc in
       (ap length same ∙ length-take-le n bytes long, sym (ap (λ b. b ++ rest) same ∙ ap (λ r. take n bytes ++ r) after ∙ take-append-drop n bytes))
 ]
 
--- which number stands in front of a frame that is found
+-- the length that a frame that is found begins with
 number_found : (least : ℕ) (bytes body rest : List ℕ) (read : Option ℤ) → front_from least bytes read ≡ Body body rest
     → (n : ℕ) × (read ≡ Some (pos n)) × (least ≤ n) × (n ≤ max_body) × (front_sized n (drop 4 bytes) ≡ Body body rest)
 number_found least bytes body rest None h = cc
@@ -76,7 +76,7 @@ front-inside least bytes body rest h =
       sym (drop-drop (length body) 4 bytes) ∙ ap (drop (length body)) parts.1 ∙ drop_at body rest (length body) refl,
     )
 
--- what is found whole is a frame of a body in range
+-- what is found is a frame, and its body's length is in range
 pub front-reads : (least : ℕ) (bytes body rest : List ℕ) → AreBytes bytes → front least bytes ≡ Body body rest → IsBody least body × (bytes ≡ Frame body ++ rest)
 unfolding front Frame
 front-reads least bytes body rest are h =
@@ -92,8 +92,8 @@ front-reads least bytes body rest are h =
 
 sized_never_bad : (k : ℕ) (bytes : List ℕ) (n : ℤ) → front_sized k bytes ≡ Bad n → ⊥
 sized_never_bad k bytes n h = elim (cases_lt (length bytes) k) [
-  | inl short ↦ let part = cond-true (nat_lt (length bytes) k) (Part (k - length bytes)) (Body (take k bytes) (drop k bytes)) (lt-ltb _ _ short) in cc
-  | inr long ↦ let whole = cond-false (nat_lt (length bytes) k) (Part (k - length bytes)) (Body (take k bytes) (drop k bytes)) (le-ltb _ _ long) in cc
+  | inl short ↦ let part = cond-true (nat_lt (length bytes) k) (Incomplete (k - length bytes)) (Body (take k bytes) (drop k bytes)) (lt-ltb _ _ short) in cc
+  | inr long ↦ let whole = cond-false (nat_lt (length bytes) k) (Incomplete (k - length bytes)) (Body (take k bytes) (drop k bytes)) (le-ltb _ _ long) in cc
 ]
 
 -- a length that is refused is out of range
@@ -121,7 +121,7 @@ front-bad least bytes n are h =
     let found = bad_number least bytes n (number_at w32 bytes 0) h in
     (number_at-within n bytes found.0, LE-number_at_32 n bytes are found.0, found.1)
 
--- ---- the bodies that a stream begins with
+-- ---- the bodies of a stream's first frames
 
 AreBodies-push : (side : Side) (bodies : List (List ℕ)) (body : List ℕ) → AreBodies side bodies → IsBody (least_after side bodies) body → AreBodies side (bodies ++ body ∷ [])
 AreBodies-push side [] body each is = (is, tt)
@@ -130,7 +130,7 @@ AreBodies-push side (first ∷ others) body each is = (each.0, each_later others
   each_later [] all = (is, tt)
   each_later (other ∷ others) all = (all.0, each_later others all.1)
 
--- no body has come yet
+-- no frame has been passed yet
 pub Begins-start : (side : Side) (input : List ℕ) → Begins side input [] input
 Begins-start side input = record { whole = refl; each = tt }
 
@@ -139,7 +139,7 @@ pub Begins-more : {side : Side} {input rest : List ℕ} {bodies : List (List ℕ
 Begins-more {side} {input} {rest} {bodies} b more =
     record { whole = ap (λ l. l ++ more) b.whole ∙ append_assoc (flat_map Frame bodies) rest more; each = b.each }
 
--- the next body is passed
+-- one more frame is passed
 pub Begins-pass : {side : Side} {input rest : List ℕ} {bodies : List (List ℕ)} → Begins side input bodies rest → (body after : List ℕ)
     → IsBody (least_after side bodies) body → rest ≡ Frame body ++ after → Begins side input (bodies ++ body ∷ []) after
 Begins-pass {side} {input} {rest} {bodies} b body after is e = record {
@@ -150,7 +150,7 @@ Begins-pass {side} {input} {rest} {bodies} b body after is e = record {
 
 -- ---- each stream has exactly one cut
 
--- a side that sends only later bodies from here on
+-- a side whose every body has the least length of a later one
 abbrev again : Side → Side
 again side = record { first = side.later; later = side.later }
 
@@ -166,36 +166,36 @@ again_least : (side : Side) (bodies : List (List ℕ)) → least_after (again si
 again_least side [] = refl
 again_least side (body ∷ bodies) = refl
 
-cut_behind : (side : Side) (input : List ℕ) (body : List ℕ) (bodies : List (List ℕ)) (rest : List ℕ) → Cut side input (body ∷ bodies) rest
+cut_after_body : (side : Side) (input : List ℕ) (body : List ℕ) (bodies : List (List ℕ)) (rest : List ℕ) → Cut side input (body ∷ bodies) rest
     → (input ≡ Frame body ++ (flat_map Frame bodies ++ rest)) × Cut (again side) (flat_map Frame bodies ++ rest) bodies rest
-cut_behind side input body bodies rest cut = (
+cut_after_body side input body bodies rest cut = (
   cut.begins.whole ∙ append_assoc (Frame body) (flat_map Frame bodies) rest,
   record {
     begins = record { whole = refl; each = again_bodies side bodies cut.begins.each.1 };
-    ends = subst (λ (least : ℕ). IsCut (front least rest)) (sym (again_least side bodies)) cut.ends;
+    ends = subst (λ (least : ℕ). HasNoFrame (front least rest)) (sym (again_least side bodies)) cut.ends;
   },
 )
 
 cut_found : (side : Side) (input : List ℕ) (body : List ℕ) (bodies : List (List ℕ)) (rest : List ℕ) → Cut side input (body ∷ bodies) rest
     → front side.first input ≡ Body body (flat_map Frame bodies ++ rest)
 cut_found side input body bodies rest cut =
-    ap (front side.first) (cut_behind side input body bodies rest cut).0 ∙ front-Frame side.first body (flat_map Frame bodies ++ rest) cut.begins.each.0
+    ap (front side.first) (cut_after_body side input body bodies rest cut).0 ∙ front-Frame side.first body (flat_map Frame bodies ++ rest) cut.begins.each.0
 
--- no stream has two
+-- no stream has two cuts
 pub same_cut : (bodies others : List (List ℕ)) (side : Side) (input rest end : List ℕ) → Cut side input bodies rest → Cut side input others end → (bodies ≡ others) × (rest ≡ end)
 same_cut [] [] side input rest end a b = (refl, sym a.begins.whole ∙ b.begins.whole)
 same_cut [] (other ∷ others) side input rest end a b =
-    absurd (subst IsCut (ap (front side.first) (sym a.begins.whole) ∙ cut_found side input other others end b) a.ends)
+    absurd (subst HasNoFrame (ap (front side.first) (sym a.begins.whole) ∙ cut_found side input other others end b) a.ends)
 same_cut (body ∷ bodies) [] side input rest end a b =
-    absurd (subst IsCut (ap (front side.first) (sym b.begins.whole) ∙ cut_found side input body bodies rest a) b.ends)
+    absurd (subst HasNoFrame (ap (front side.first) (sym b.begins.whole) ∙ cut_found side input body bodies rest a) b.ends)
 same_cut (body ∷ bodies) (other ∷ others) side input rest end a b =
     let one = cut_found side input body bodies rest a in
     let two = cut_found side input other others end b in
     let first : body ≡ other = cc in
     let after : flat_map Frame bodies ++ rest ≡ flat_map Frame others ++ end = cc in
-    let tail = (cut_behind side input other others end b).1 in
+    let tail = (cut_after_body side input other others end b).1 in
     let both = same_cut bodies others (again side) (flat_map Frame bodies ++ rest) rest end
-    (cut_behind side input body bodies rest a).1 (subst (λ (l : List ℕ). Cut (again side) l others end) (sym after) tail) in
+    (cut_after_body side input body bodies rest a).1 (subst (λ (l : List ℕ). Cut (again side) l others end) (sym after) tail) in
     (ap (λ b. b ∷ bodies) first ∙ ap (λ bs. other ∷ bs) both.0, both.1)
 
 pub rest_bytes : (xs ys : List ℕ) → AreBytes (xs ++ ys) → AreBytes ys
@@ -206,7 +206,7 @@ append_bytes [] ys front more i = more i
 append_bytes (x ∷ xs) ys front more zero = front 0
 append_bytes (x ∷ xs) ys front more (suc i) = append_bytes xs ys (λ k. front (suc k)) more i
 
--- a cut of what follows a body is one of the whole
+-- a cut of what follows a frame gives a cut of the whole
 cut_before : (side : Side) (body : List ℕ) (input : List ℕ) (bodies : List (List ℕ)) (rest : List ℕ) → IsBody side.first body → Cut (again side) input bodies rest
     → Cut side (Frame body ++ input) (body ∷ bodies) rest
 cut_before side body input bodies rest is cut = record {
@@ -214,18 +214,18 @@ cut_before side body input bodies rest is cut = record {
     whole = ap (λ l. Frame body ++ l) cut.begins.whole ∙ sym (append_assoc (Frame body) (flat_map Frame bodies) rest);
     each = (is, later_bodies side bodies cut.begins.each);
   };
-  ends = subst (λ (least : ℕ). IsCut (front least rest)) (again_least side bodies) cut.ends;
+  ends = subst (λ (least : ℕ). HasNoFrame (front least rest)) (again_least side bodies) cut.ends;
 }
 
 abbrev HasCut : Side → List ℕ → Type 0
 HasCut side input = (bodies : List (List ℕ)) × (rest : List ℕ) × Cut side input bodies rest
 
-cut_here : (side : Side) (input : List ℕ) → IsCut (front side.first input) → HasCut side input
+cut_here : (side : Side) (input : List ℕ) → HasNoFrame (front side.first input) → HasCut side input
 cut_here side input ends = ([], input, record { begins = Begins-start side input; ends = ends })
 
 at_front : (fuel : ℕ) (side : Side) (input : List ℕ) → length input ≤ fuel → AreBytes input → (found : Front) → front side.first input ≡ found → HasCut side input
-at_front fuel side input bound are (Bad n) e = cut_here side input (subst IsCut (sym e) tt)
-at_front fuel side input bound are (Part missing) e = cut_here side input (subst IsCut (sym e) tt)
+at_front fuel side input bound are (Bad n) e = cut_here side input (subst HasNoFrame (sym e) tt)
+at_front fuel side input bound are (Incomplete missing) e = cut_here side input (subst HasNoFrame (sym e) tt)
 at_front zero side input bound are (Body body rest) e =
     let read = front-reads side.first input body rest are e in
     let len = ap length read.1 ∙ length-append (Frame body) rest in
@@ -234,12 +234,12 @@ at_front (suc fuel) side input bound are (Body body rest) e =
     let read = front-reads side.first input body rest are e in
     let len = ap length read.1 ∙ length-append (Frame body) rest in
     let shorter : length rest ≤ fuel = omega (arith, len, length-Frame body) in
-    let behind = at_front fuel (again side) rest shorter (rest_bytes (Frame body) rest (subst AreBytes read.1 are)) (front side.later rest) refl in (
-      body ∷ behind.0,
-      behind.1,
-      subst (λ (l : List ℕ). Cut side l (body ∷ behind.0) behind.1) (sym read.1) (cut_before side body rest behind.0 behind.1 read.0 behind.2),
+    let others = at_front fuel (again side) rest shorter (rest_bytes (Frame body) rest (subst AreBytes read.1 are)) (front side.later rest) refl in (
+      body ∷ others.0,
+      others.1,
+      subst (λ (l : List ℕ). Cut side l (body ∷ others.0) others.1) (sym read.1) (cut_before side body rest others.0 others.1 read.0 others.2),
     )
 
--- each stream has one
+-- each stream has a cut
 pub has_cut : (side : Side) (input : List ℕ) → AreBytes input → HasCut side input
 has_cut side input are = at_front (length input) side input (omega arith) are (front side.first input) refl

@@ -1,4 +1,4 @@
--- Lemmas on numbers as bytes.
+-- Lemmas on numbers as little-endian bytes.
 use Rattle.std.proofs.Common.{◌≡◌, ℕ, ◌+◌, ◌<◌, ◌≤◌, ◌^◌, ℤ, List, ◌++◌, length, take, drop, None, Some, refl, sym, ap, ◌∙◌, lit<, arith, length-take-le, get_or-take, inl, inr}
 use Rattle.std.proofs.Math.Facts.{Fits-of_z}
 use Rattle.std.proofs.lemmas.Bool.{le-ltb, lt-ltb, cond-true, cond-false, cases_lt}
@@ -22,7 +22,7 @@ pub length-LE_64 : (z : ℤ) → length (LE w64 z) ≡ 8
 unfolding LE
 length-LE_64 z = refl
 
--- where there are four bytes, they are read
+-- where there are four bytes, they are read as a number
 pub number_at-enough : (bytes : List ℕ) → 4 ≤ length bytes → number_at w32 bytes 0 ≡ Some (cast_signed w32 (from_le_bytes w32 (take 4 bytes)))
 number_at-enough bytes h = cond-false _ _ _ (le-ltb (length bytes) 4 h)
 
@@ -46,14 +46,14 @@ number_at-within z bytes h = elim (cases_lt (length bytes) 4) [
   | inr long ↦ long
 ]
 
--- a front of bytes is bytes
+-- a prefix of bytes is bytes
 pub take-bytes : (n : ℕ) (bytes : List ℕ) → AreBytes bytes → AreBytes (take n bytes)
 take-bytes n bytes are i = elim (cases_lt i n) [
   | inl within ↦ let same = get_or-take n bytes i 0 within in omega (arith, same, are i)
   | inr past ↦ let none = get_or_past (take n bytes) i 0 (omega (arith, length-take n bytes)) in omega (arith, none)
 ]
 
--- what is read as a number is its bytes
+-- the bytes that are read as a number are its bytes
 pub LE-number_at_32 : (z : ℤ) (bytes : List ℕ) → AreBytes bytes → number_at w32 bytes 0 ≡ Some z → LE w32 z ≡ take 4 bytes
 unfolding LE
 LE-number_at_32 z bytes are h =
@@ -67,7 +67,7 @@ LE-number_at_32 z bytes are h =
     ∙ ap (to_le_bytes w32) (of_z-to_z w32 read small)
     ∙ le_bytes_4 (take 4 bytes) read (length-take-le 4 bytes long) four refl
 
--- the bytes of a number, at a place, are read as that number
+-- the bytes of a number, at an offset, are read as that number
 reads : (w : Width) (z : ℤ) (bytes : List ℕ) (at : ℕ) → ((n : ℕ) → n < 2 ^ bits w → from_le_bytes w (to_le_bytes w n) ≡ n)
     → length (to_le_bytes w (cast_unsigned w z)) ≡ byte_len w → 0 < byte_len w → FitsSigned w z
     → to_le_bytes w (cast_unsigned w z) ≡ take (byte_len w) (drop at bytes) → number_at w bytes at ≡ Some z

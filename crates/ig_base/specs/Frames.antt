@@ -1,4 +1,4 @@
--- Frames, and how a stream falls into them.
+-- Frames, and how a stream is cut into them.
 use Rattle.std.specs.Prelude.{◌≡◌, ℕ, ◌-◌, ◌≤◌, ◌≤ℤ◌, ℤ, pos, negsuc, List, [], ◌∷◌, ◌++◌, length, take, drop, nat_lt, nat_le, ◌&&◌, Option, None, Some, if◌then◌else◌}
 use Rattle.std.specs.Int.{w32}
 use Rattle.std.specs.List.{flat_map, AllByRecursion}
@@ -8,11 +8,11 @@ use Rattle.ig_base.specs.Numbers.{LE, number_at}
 abbrev pub max_body : ℕ
 max_body = 8388608
 
--- a length, and that many bytes, the body
+-- the length of a body in four bytes, and the body
 unfoldable pub Frame : List ℕ → List ℕ
 Frame body = LE w32 (pos (length body)) ++ body
 
--- the least lengths of the bodies that one side sends: of its first, and of each other
+-- the least lengths of the bodies that one side sends: of its first, and of each later one
 pub record Side : Type 0 where
   pub first : ℕ
   pub later : ℕ
@@ -21,7 +21,7 @@ pub record Side : Type 0 where
 abbrev pub client : Side
 client = record { first = 8; later = 10 }
 
--- the least length of the body after these
+-- the least length of the next body after these
 abbrev pub least_after : Side → List (List ℕ) → ℕ
 least_after side [] = side.first
 least_after side (body ∷ bodies) = side.later
@@ -41,36 +41,39 @@ pub record Begins (side : Side) (input : List ℕ) (bodies : List (List ℕ)) (r
   pub whole : input ≡ flat_map Frame bodies ++ rest
   pub each : AreBodies side bodies
 
--- What bytes begin with: a whole frame, given as its body and what follows; a length out of range; or less
--- than a whole frame, with the number of bytes missing to the end of the length, or of the frame.
+-- What bytes begin with: a whole frame, given as its body and the bytes after the frame; a length
+-- that is out of range; or an incomplete frame, with the number of bytes missing: to the end of the
+-- length where fewer than four bytes are there, else to the end of the frame.
 pub data Front : Type 0 where
   Body : List ℕ → List ℕ → Front
   Bad : ℤ → Front
-  Part : ℕ → Front
+  Incomplete : ℕ → Front
 
--- behind a length in range
+-- what the bytes after a length in range begin with
 abbrev pub front_sized : ℕ → List ℕ → Front
-front_sized n bytes = if nat_lt (length bytes) n then Part (n - length bytes) else Body (take n bytes) (drop n bytes)
+front_sized n bytes = if nat_lt (length bytes) n then Incomplete (n - length bytes) else Body (take n bytes) (drop n bytes)
 
+-- what bytes begin with, where their first four are this number, if they have four
 abbrev pub front_from : ℕ → List ℕ → Option ℤ → Front
-front_from least bytes None = Part (4 - length bytes)
+front_from least bytes None = Incomplete (4 - length bytes)
 front_from least bytes (Some (pos n)) = if nat_le least n && nat_le n max_body then front_sized n (drop 4 bytes) else Bad (pos n)
 front_from least bytes (Some (negsuc n)) = Bad (negsuc n)
 
+-- what bytes begin with, where a body has at least this length
 unfoldable pub front : ℕ → List ℕ → Front
 front least bytes = front_from least bytes (number_at w32 bytes 0)
 
--- no body has this length
+-- a body can't have this length
 abbrev pub IsOutOfRange : ℕ → ℤ → Type 0
 IsOutOfRange least n = pos least ≤ℤ n → n ≤ℤ pos max_body → ⊥
 
--- no whole frame is there
-abbrev pub IsCut : Front → Type 0
-IsCut (Body body rest) = ⊥
-IsCut (Bad n) = Unit {0}
-IsCut (Part missing) = Unit {0}
+-- the bytes don't begin with a whole frame
+abbrev pub HasNoFrame : Front → Type 0
+HasNoFrame (Body body rest) = ⊥
+HasNoFrame (Bad n) = Unit {0}
+HasNoFrame (Incomplete missing) = Unit {0}
 
--- these are all the whole frames of the input, and the rest begins with none
+-- the input is the frames of these bodies and the rest, which doesn't begin with a whole frame
 pub record Cut (side : Side) (input : List ℕ) (bodies : List (List ℕ)) (rest : List ℕ) : Type 0 where
   pub begins : Begins side input bodies rest
-  pub ends : IsCut (front (least_after side bodies) rest)
+  pub ends : HasNoFrame (front (least_after side bodies) rest)

@@ -1,10 +1,12 @@
+//! A vector that contracts see as a list.
+
 ghost use Rattle.std.specs.Prelude.{◌≡◌};
 
 use std::marker::Model;
 
 /// A vector that contracts see as the list of its items.
 ///
-/// A type may reach itself through it, as a tree whose children stand in `Items`.
+/// A type may contain itself through `Items`, as a tree whose nodes hold their children in it.
 #[derive(Debug, Drop)]
 pub struct Items<T> {
     items: Vec<T>,
@@ -22,14 +24,14 @@ impl<T> Model for Items<T> {
 }
 
 impl<T> Items<T> {
-    /// Makes items of a vector, without memory of its own.
+    /// Wraps a vector. Takes no memory.
     pub fn new(items: Vec<T>) -> Items<T>
         ensures { result ≡ items.items }
     {
         Items { items }
     }
 
-    /// Gives the items back as a vector, without memory of its own.
+    /// Unwraps the vector. Takes no memory.
     pub fn into_std(self) -> Vec<T>
         ensures { result.items ≡ self }
     {
@@ -37,7 +39,7 @@ impl<T> Items<T> {
         items
     }
 
-    /// Lends the items.
+    /// The items, in order.
     pub fn as_slice(&self) -> &[T]
         ensures { result.now ≡ self.now }
     {

@@ -1,10 +1,11 @@
-//! Numbers as bytes, hashes, frames, and the small types that every other crate speaks of.
+//! What all crates share: little-endian numbers, hashes, frames, and small types such as [`Octets`].
 //!
-//! A message of the protocol is little-endian throughout. `get_i16` to `put_i64` read and write its
-//! numbers, and `specs/` has the words for them: `LE`, the bytes of a number, lowest first; `Frame`, a
-//! length and that many bytes; `Cut`, how a stream falls into frames.
+//! Every number of the protocol is little-endian. `get_i16` to `put_i64` read and write them. The files
+//! of `specs/` define what contracts speak of: `LE`, the bytes of a number, lowest first; `Frame`, the
+//! length of a body in four bytes and then the body; `Cut`, the frames that a stream consists of and
+//! the rest after the last whole one.
 //!
-//! Contracts see [`Text`], [`Octets`] and [`Items`] as lists, so that a tree of them is plain data.
+//! Contracts see [`Text`], [`Octets`] and [`Items`] as lists, so a tree of them is plain data.
 #![tactic(auto)]
 
 mod frames;

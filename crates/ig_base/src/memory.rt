@@ -1,9 +1,9 @@
-//! Want of memory.
+//! Out of memory, as the one error that any allocating call may return.
 
 use std::alloc::{AllocError, AllocFailed};
 use std::fmt;
 
-/// There was no memory for what a call had to make.
+/// Out of memory: the call didn't get the memory that it needs.
 #[derive(Clone, Copy, Debug, PartialEq, Eq)]
 pub struct NoMemory;
 
@@ -27,8 +27,17 @@ impl<T: Drop> From<AllocFailed<T>> for NoMemory {
     }
 }
 
-/// There was no memory for a call, which hands back what it was given.
+/// Out of memory, from a call that took ownership of its argument and hands it back.
 #[derive(Debug, Drop)]
 pub struct NoRoom<T> {
+    /// The argument, unchanged.
     pub back: T,
 }
+
+impl<T> fmt::Display for NoRoom<T> {
+    fn fmt<W: fmt::Write>(&self, f: &mut fmt::Formatter<W>) -> fmt::Result {
+        fmt::Display::fmt(&NoMemory, f)
+    }
+}
+
+impl<T: fmt::Debug + Drop> std::error::Error for NoRoom<T> {}

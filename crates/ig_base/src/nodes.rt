@@ -1,6 +1,6 @@
-//! What names a node and a state of the topology.
+//! The identifier of a node, and the version of the topology.
 
-/// The identifier of a node, a UUID in two halves.
+/// The identifier of a node: a UUID, as two halves of 64 bits.
 #[derive(Clone, Copy, Debug, PartialEq, Eq)]
 pub struct NodeId {
     /// The most significant 64 bits.
@@ -9,9 +9,11 @@ pub struct NodeId {
     pub least: u64,
 }
 
-/// A state of the topology: its version, and the minor version that counts the changes of caches.
+/// The version of the topology that a node or a reply speaks of.
 #[derive(Clone, Copy, Debug, PartialEq, Eq)]
 pub struct Topology {
+    /// The version.
     pub version: i64,
+    /// The minor version, which counts the caches created and destroyed.
     pub minor: i32,
 }

@@ -1,10 +1,12 @@
+//! Bytes that contracts see as a list.
+
 ghost use Rattle.std.specs.Prelude.{◌≡◌, [], ◌∷◌, ◌++◌, length, IsTrue, ◌↔◌, IfOk, OnOk, OnErr, ◌+◌, ◌≤◌, vec_capacity};
 
 use crate::memory::NoMemory;
 use std::alloc::Global;
 use std::marker::Model;
 
-/// Bytes, seen by contracts as a list.
+/// A growable byte buffer, which contracts see as the list of its bytes.
 #[derive(Debug, Drop)]
 pub struct Octets {
     bytes: Vec<u8>,
@@ -19,14 +21,14 @@ impl Model for Octets {
 }
 
 impl Octets {
-    /// Makes octets of a vector's bytes, without memory of its own.
+    /// Wraps a vector. Takes no memory.
     pub fn new(bytes: Vec<u8>) -> Octets
         ensures { result ≡ bytes.items }
     {
         Octets { bytes }
     }
 
-    /// No bytes yet. Takes no memory.
+    /// An empty buffer. Takes no memory until it grows.
     pub fn empty(alloc: Global) -> Octets
         ensures { result ≡ [] }
     {
@@ -35,7 +37,7 @@ impl Octets {
         }
     }
 
-    /// Gives the bytes back as a vector, without memory of its own.
+    /// Unwraps the vector. Takes no memory.
     pub fn into_std(self) -> Vec<u8>
         ensures { result.items ≡ self }
     {
@@ -43,7 +45,7 @@ impl Octets {
         bytes
     }
 
-    /// Lends the bytes.
+    /// The bytes.
     pub fn as_slice(&self) -> &[u8]
         ensures { result.now ≡ self.now }
     {
@@ -64,14 +66,14 @@ impl Octets {
         self.bytes.is_empty()
     }
 
-    /// Takes all bytes away and keeps the room for as many.
+    /// Removes all bytes and keeps the capacity.
     pub fn clear(&mut self)
         ensures { self.new ≡ [] }
     {
         self.bytes.clear();
     }
 
-    /// Appends a byte.
+    /// Appends one byte. On an error the bytes are as before.
     pub fn push(&mut self, byte: u8) -> Result<(), NoMemory>
         ensures ok { OnOk result (self.new ≡ self.old ++ byte ∷ []) }
         ensures err { OnErr result (self.new ≡ self.old) }
@@ -80,7 +82,7 @@ impl Octets {
         Ok(())
     }
 
-    /// Appends the bytes of a slice.
+    /// Appends the bytes of a slice. On an error the bytes are as before.
     pub fn append(&mut self, piece: &[u8]) -> Result<(), NoMemory>
         ensures ok { OnOk result (self.new ≡ self.old ++ piece.now) }
         ensures err { OnErr result (self.new ≡ self.old) }

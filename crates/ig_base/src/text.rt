@@ -1,8 +1,10 @@
+//! A text that contracts see as a list of bytes.
+
 ghost use Rattle.std.specs.Prelude.{◌≡◌, string_bytes};
 
 use std::marker::Model;
 
-/// A text, seen by contracts as the list of its UTF-8 bytes.
+/// A text, which contracts see as the list of its UTF-8 bytes.
 #[derive(Debug, Drop)]
 pub struct Text {
     text: String,
@@ -17,14 +19,14 @@ impl Model for Text {
 }
 
 impl Text {
-    /// Makes a text of a string, without memory of its own.
+    /// Wraps a string. Takes no memory.
     pub fn new(text: String) -> Text
         ensures { result ≡ string_bytes text }
     {
         Text { text }
     }
 
-    /// Gives the text back as a string, without memory of its own.
+    /// Unwraps the string. Takes no memory.
     pub fn into_std(self) -> String
         ensures { string_bytes result ≡ self }
     {
@@ -32,7 +34,7 @@ impl Text {
         text
     }
 
-    /// Lends the text.
+    /// The text.
     pub fn as_str(&self) -> &str
         ensures { result.now ≡ self.now }
     {

@@ -1,6 +1,6 @@
 pub mod States
-pub mod Calls
+pub mod ReadsAs
+pub mod WritesAs
 pub mod Pipes
-pub mod Steps
-pub mod MemLinkSteps
+pub mod Script
 pub mod MemLink

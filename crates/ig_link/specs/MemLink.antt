@@ -1,13 +1,14 @@
--- How a link in memory keeps its script.
+-- How a `MemLink` holds the state of its script.
 use Rattle.std.specs.Prelude.{◌≡◌, true, ◌+◌, ◌≤◌, List, length, drop, vec_len, vec_capacity}
 use Rattle.ig_link.specs.declared.mem_link.ReadStep.{ReadStep}
 use Rattle.ig_link.specs.declared.mem_link.MemLink.TheInside.{Inside}
-use Rattle.ig_link.specs.Steps.{Script, bytes_of}
-use Rattle.ig_link.specs.MemLinkSteps.{trimmed}
+use Rattle.ig_link.specs.Script.{Script, bytes_of, steps_from_offset}
 
+-- the read steps from the next one on, without the bytes of it that were taken
 abbrev pub reads_left : Inside → List ReadStep
-reads_left m = trimmed m.offset (drop m.next_read m.reads.items)
+reads_left m = steps_from_offset m.offset (drop m.next_read m.reads.items)
 
+-- the state of its script
 abbrev pub script : Inside → Script
 script m = record {
   room = m.room;
@@ -21,7 +22,8 @@ script m = record {
   ended = m.ended;
 }
 
--- there is room for all bytes that are still to be taken, and for those that are kept when they are written
+-- the next steps lie within the steps, an ended link has no read step left, and the memory for all
+-- bytes still to be taken, and for all written bytes that there is room for, is there already
 pub record IsPrepared (m : Inside) : Type 0 where
   pub reads_within : m.next_read ≤ length m.reads.items
   pub writes_within : m.next_write ≤ length m.writes.items

@@ -1,9 +1,11 @@
-//! Both ends of a link: where bytes come from, where they go, and what each call tells of them.
+//! The two directions of a link: a source of bytes, a sink for bytes, and what each call says of them.
 //!
-//! A contract sees a [`Source`] as the bytes taken from it so far and those still to come, where it
-//! tells them, with the number of its faults and whether it has ended; and a [`Sink`] as the bytes
-//! written to it, where it tells them, with the number of its faults. [`PipeIn`] and [`PipeOut`] are
-//! these two over std's readers and writers; [`MemLink`] is a link in memory that follows a script.
+//! Contracts see a [`Source`] as the bytes taken so far and those still to come, each if the source
+//! tells them, how often a read has failed, and whether the source has ended. They see a [`Sink`] as
+//! the bytes written so far, if it tells them, and how often a write has failed.
+//!
+//! [`MemLink`] is a link in memory that follows a script and tells its bytes. [`PipeIn`] and [`PipeOut`]
+//! are a source and a sink over a reader and a writer of std. [`send_all`] writes a whole piece.
 #![tactic(auto)]
 
 mod ends;

@@ -1,35 +1,36 @@
 //! A link in memory that follows a script.
 
 ghost use Rattle.std.specs.Prelude.{◌≡◌, ◌<◌, ◌≤◌, ◌+◌, ◌++◌, ℕ, List, [], false, true, vec_len, vec_capacity, length, take, drop, min, IfOk, IfSome, MatchOption, OnSome, IsNone, IsTrue, ◌↔◌};
-ghost use Rattle.ig_link.specs.Steps.{bytes_of, behind_empty};
-ghost use Rattle.ig_link.specs.MemLinkSteps.{trimmed};
+ghost use Rattle.ig_link.specs.Script.{bytes_of, after_empty_steps, steps_from_offset};
 
 use crate::ends::{Duplex, Gave, Sink, Source, Take};
 use ig_base::{NoMemory, Octets};
 use std::alloc::Global;
 use std::marker::Model;
 
-/// A step of a script's reads.
+/// A step of the reads of a [`MemLink`].
 #[derive(Debug, Drop)]
 pub enum ReadStep {
-    /// These bytes come, in as many reads as it takes.
+    /// These bytes, in as many reads as their buffers need. An empty step is skipped.
     Bytes(Octets),
-    /// A read fails.
+    /// One read fails.
     Fault,
 }
 
-/// A step of a script's writes.
+/// A step of the writes of a [`MemLink`], used by one write.
 #[derive(Clone, Copy, Debug, PartialEq, Eq)]
 pub enum WriteStep {
-    /// A write takes at most this many bytes, where 0 counts as 1.
+    /// The write takes at most this many bytes; 0 counts as 1.
     AtMost(usize),
-    /// A write fails.
+    /// The write fails.
     Fault,
 }
 
-/// A link in memory. Its steps are used in order; behind the last read step it ends, and behind the
-/// last write step it takes every piece whole. It tells what was taken, and what was written until
-/// that was more than it has room for.
+/// A link in memory that follows a script: its read steps and its write steps are each used in order.
+/// After the last read step it ends. After the last write step it takes every piece whole.
+///
+/// It tells the bytes taken and the bytes still to come. It tells the bytes written until they are
+/// more than it has room for; bytes after that are taken and not kept.
 #[derive(Drop)]
 pub struct MemLink {
     reads: Vec<ReadStep>,
@@ -47,7 +48,7 @@ pub struct MemLink {
 }
 
 impl Model for MemLink {
-    ghost use Rattle.ig_link.specs.Steps.{Script};
+    ghost use Rattle.ig_link.specs.Script.{Script};
 
     ghost Value = { Script };
 
@@ -58,14 +59,14 @@ impl Model for MemLink {
     ghost invariant = { IsPrepared };
 }
 
-/// The bytes from a place on, none where it is past the end.
+/// The bytes from an offset on; none past the end.
 fn bytes_from(bytes: &[u8], at: usize) -> &[u8]
     ensures { result.now ≡ drop at bytes.now }
 {
     if at < bytes.len() { &bytes[at..] } else { &[] }
 }
 
-/// Copies as many bytes as fit to the front of a buffer.
+/// Copies as many bytes as fit to the start of a buffer, and returns how many.
 fn copy_some(bytes: &[u8], buf: &mut [u8]) -> usize
     ensures count { result ≡ min (length bytes.now) (length buf.old) }
     ensures copied { take result buf.new ≡ take result bytes.now }
@@ -75,12 +76,14 @@ fn copy_some(bytes: &[u8], buf: &mut [u8]) -> usize
     n
 }
 
-/// The place of the first step that gives something or fails, and how much of it is gone.
-fn next_place(reads: &[ReadStep], next: usize, offset: usize) -> (usize, usize)
+/// Skips the steps that have no bytes left and aren't faults. Takes and returns the index of a step and
+/// the number of its bytes that were taken.
+fn skip_empty_steps(reads: &[ReadStep], next: usize, offset: usize) -> (usize, usize)
     requires { next ≤ length reads.now }
     ensures within { result.0 ≤ length reads.now }
     ensures later { next ≤ result.0 }
-    ensures steps { trimmed result.1 (drop result.0 reads.now) ≡ behind_empty (trimmed offset (drop next reads.now)) }
+    ensures steps { steps_from_offset result.1 (drop result.0 reads.now)
+        ≡ after_empty_steps (steps_from_offset offset (drop next reads.now)) }
 {
     let mut next = next;
     let mut offset = offset;
@@ -96,12 +99,14 @@ fn next_place(reads: &[ReadStep], next: usize, offset: usize) -> (usize, usize)
     (next, offset)
 }
 
-/// Keeps what was written, as long as there is room for all of it.
+/// Adds the piece to what was written, unless that overruns the room now or did before.
 fn keep(written: &mut Vec<u8>, overrun: &mut bool, room: usize, piece: &[u8])
     requires prepared { room ≤ vec_capacity written.old }
     requires within { vec_len written.old ≤ room }
-    ensures kept { overrun.new ≡ false → (overrun.old ≡ false) × (written.new.items ≡ written.old.items ++ piece.now) }
-    ensures overrun { overrun.new ≡ true → overrun.old ≡ false → room < length written.old.items + length piece.now }
+    ensures kept { overrun.new ≡ false
+        → (overrun.old ≡ false) × (written.new.items ≡ written.old.items ++ piece.now) }
+    ensures overrun { overrun.new ≡ true → overrun.old ≡ false
+        → room < length written.old.items + length piece.now }
     ensures prepared { room ≤ vec_capacity written.new }
     ensures within { vec_len written.new ≤ room }
 {
@@ -115,7 +120,7 @@ fn keep(written: &mut Vec<u8>, overrun: &mut bool, room: usize, piece: &[u8])
     let _ = written.extend_from_slice(piece);
 }
 
-/// How many bytes the steps give.
+/// The number of bytes that the steps give, `None` if a `usize` can't hold it.
 fn total(reads: &[ReadStep]) -> Option<usize>
     ensures { IfSome result (λ n. n ≡ length (bytes_of reads.now)) }
 {
@@ -130,17 +135,17 @@ fn total(reads: &[ReadStep]) -> Option<usize>
 
 impl MemLink {
     ghost use Rattle.std.specs.Prelude.{◌≡◌, [], IfOk, IsTrue, ◌↔◌, false, MatchOption, true};
-    ghost use Rattle.ig_link.specs.Steps.{first_script};
+    ghost use Rattle.ig_link.specs.Script.{initial_script};
 
-    /// A link that follows these steps, with room for as many written bytes. It takes the room for all
-    /// bytes that it can give and for those.
+    /// A link that follows these steps and keeps up to `room` written bytes. Takes the memory for all
+    /// bytes that it can give and for `room` bytes here, and none later.
     pub fn new(
         alloc: Global,
         reads: Vec<ReadStep>,
         writes: Vec<WriteStep>,
         room: usize,
     ) -> Result<MemLink, NoMemory>
-        ensures { IfOk result (λ link. link ≡ first_script room reads.items writes.items) }
+        ensures { IfOk result (λ link. link ≡ initial_script room reads.items writes.items) }
     {
         let Some(all) = total(&reads) else {
             return Err(NoMemory);
@@ -163,16 +168,17 @@ impl MemLink {
         })
     }
 
-    /// The bytes that were taken.
+    /// The bytes taken so far.
     pub fn taken(&self) -> &[u8]
         ensures { result.now ≡ self.now.taken }
     {
         self.taken.as_slice()
     }
 
-    /// The bytes that were written, as long as there was room for all of them.
+    /// The bytes written so far, `None` once they were more than the link has room for.
     pub fn written(&self) -> Option<&[u8]>
-        ensures { MatchOption result (self.now.overrun ≡ true) (λ w. (self.now.overrun ≡ false) × (w.now ≡ self.now.written)) }
+        ensures { MatchOption result (self.now.overrun ≡ true)
+            (λ w. (self.now.overrun ≡ false) × (w.now ≡ self.now.written)) }
     {
         if self.overrun {
             None
@@ -181,14 +187,14 @@ impl MemLink {
         }
     }
 
-    /// How often a read failed. The count stands still at its type's end.
+    /// How often a read has failed. The count saturates at `u64::MAX`.
     pub fn read_faults(&self) -> u64
         ensures { result ≡ self.now.read_faults }
     {
         self.read_faults
     }
 
-    /// How often a write failed. The count stands still at its type's end.
+    /// How often a write has failed. The count saturates at `u64::MAX`.
     pub fn write_faults(&self) -> u64
         ensures { result ≡ self.now.write_faults }
     {
@@ -198,14 +204,14 @@ impl MemLink {
 
 impl MemLink {
     ghost use Rattle.std.specs.Prelude.{◌<◌, ◌≤◌, ◌-◌, ◌^◌, length};
-    ghost use Rattle.ig_link.specs.Steps.{ReadsStep, WritesStep};
+    ghost use Rattle.ig_link.specs.Script.{ScriptReads, ScriptWrites};
 
-    /// The next read of the script.
+    /// The next read, as the script has it.
     fn follow_read(&mut self, buf: &mut [u8]) -> Take
         requires { 0 < length buf.old }
-        ensures { ReadsStep result self.old self.new buf.new }
+        ensures { ScriptReads result self.old self.new buf.new }
     {
-        (self.next_read, self.offset) = next_place(&self.reads, self.next_read, self.offset);
+        (self.next_read, self.offset) = skip_empty_steps(&self.reads, self.next_read, self.offset);
         match self.reads.get(self.next_read) {
             None => {
                 self.ended = true;
@@ -230,12 +236,12 @@ impl MemLink {
 
 impl MemLink {
     ghost use Rattle.std.specs.Prelude.{◌<◌, length};
-    ghost use Rattle.ig_link.specs.Steps.{WritesStep};
+    ghost use Rattle.ig_link.specs.Script.{ScriptWrites};
 
-    /// The next write of the script.
+    /// The next write, as the script has it.
     fn follow_write(&mut self, piece: &[u8]) -> Gave
         requires { 0 < length piece.now }
-        ensures { WritesStep result self.old self.new piece.now }
+        ensures { ScriptWrites result self.old self.new piece.now }
     {
         match self.writes.get(self.next_write) {
             None => {
@@ -259,8 +265,8 @@ impl MemLink {
 
 impl Source for MemLink {
     ghost use Rattle.std.specs.Prelude.{◌≡◌, ◌<◌, length};
-    ghost use Rattle.ig_link.specs.Calls.{ReadsAs};
-    ghost use Rattle.ig_link.specs.Steps.{script_source, script_sink, ReadsStep};
+    ghost use Rattle.ig_link.specs.ReadsAs.{ReadsAs};
+    ghost use Rattle.ig_link.specs.Script.{script_source, script_sink, ScriptReads};
 
     ghost source = { script_source };
 
@@ -270,8 +276,8 @@ impl Source for MemLink {
         requires { 0 < length buf.old }
         ensures answer { ReadsAs result (script_source self.old) (script_source self.new) buf.new }
         ensures beside { script_sink self.new ≡ script_sink self.old }
-        // What the script says.
-        ensures step { ReadsStep result self.old self.new buf.new }
+        // The answer is the script's.
+        ensures step { ScriptReads result self.old self.new buf.new }
     {
         self.follow_read(buf)
     }
@@ -279,8 +285,8 @@ impl Source for MemLink {
 
 impl Sink for MemLink {
     ghost use Rattle.std.specs.Prelude.{◌≡◌, ◌<◌, length};
-    ghost use Rattle.ig_link.specs.Calls.{WritesAs};
-    ghost use Rattle.ig_link.specs.Steps.{script_source, script_sink, WritesStep};
+    ghost use Rattle.ig_link.specs.WritesAs.{WritesAs};
+    ghost use Rattle.ig_link.specs.Script.{script_source, script_sink, ScriptWrites};
 
     ghost sink = { script_sink };
 
@@ -290,8 +296,8 @@ impl Sink for MemLink {
         requires { 0 < length piece.now }
         ensures answer { WritesAs result (script_sink self.old) (script_sink self.new) piece.now }
         ensures beside { script_source self.new ≡ script_source self.old }
-        // What the script says.
-        ensures step { WritesStep result self.old self.new piece.now }
+        // The answer is the script's.
+        ensures step { ScriptWrites result self.old self.new piece.now }
     {
         self.follow_write(piece)
     }

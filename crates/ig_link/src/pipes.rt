@@ -1,17 +1,23 @@
-//! The two ends over std's readers and writers.
+//! A source over a reader of std, and a sink over a writer of std.
 
-ghost use Rattle.std.specs.Prelude.{◌≡◌, ◌<◌, length, None, false, true, IfOk, OnOk, OnErr};
+ghost use Rattle.std.specs.Prelude.{◌≡◌, ◌≢◌, ◌<◌, length, None, false, true, IfOk, IfErr, OnOk, OnErr};
+ghost use Rattle.std.specs.IoError.{error_kind};
 ghost use Rattle.std.specs.Io.KnownBytes.{IsAtEnd, Keeps, ReadConsumes, WriteAppends};
 ghost use Rattle.std.specs.Io.{ReadsAtMost, WritesAtMost};
 ghost use Rattle.ig_link.specs.States.{SourceState, SinkState, no_sink};
-ghost use Rattle.ig_link.specs.Calls.{ReadsAs, WritesAs};
+ghost use Rattle.ig_link.specs.ReadsAs.{ReadsAs};
+ghost use Rattle.ig_link.specs.WritesAs.{WritesAs};
 
 use crate::ends::{Gave, Sink, Source, Take};
 use std::io;
 use std::io::{ErrorKind, Read, Write};
 
-/// A source over a reader of std's. It tells the bytes that the reader tells; over a file, a pipe or a
-/// terminal that is none. A read of no bytes is the end, and any error but an interruption a fault.
+/// A source over a reader of std. A read of 0 bytes is the end, after which the reader isn't read again.
+/// An interrupted read is tried again, and any other error is a failed read.
+///
+/// It tells the bytes still to come if the reader does, as a `Cursor`; files, pipes and terminals
+/// tell none. No contract says when a reader of std fails. So that a read fails only where the
+/// reader did, and is tried again after an interruption and not instead of it, is tested.
 #[derive(Drop)]
 pub struct PipeIn<R> {
     reader: R,
@@ -19,48 +25,50 @@ pub struct PipeIn<R> {
     ended: bool,
 }
 
-/// A sink over a writer of std's. It tells the bytes that the writer tells; over a file, a pipe or a
-/// terminal that is none. A write of no bytes is a fault, and so is any error but an interruption.
+/// A sink over a writer of std. An interrupted write is tried again. Any other error is a failed write,
+/// and so is a write that takes 0 bytes.
+///
+/// It tells the bytes written if the writer does, as a `Vec<u8>`; files, pipes and terminals tell
+/// none. No contract says when a writer of std fails. So that a write fails only where the writer
+/// did, and is tried again after an interruption and not instead of it, is tested.
 #[derive(Drop)]
 pub struct PipeOut<W> {
     writer: W,
     faults: u64,
 }
 
-/// A read that is tried again as long as it is interrupted.
+/// One read, tried again while it is interrupted.
 fn read_some<R: Read>(reader: &mut R, buf: &mut [u8]) -> io::Result<usize>
     ensures bound { ReadsAtMost result buf.new }
     ensures bytes { ReadConsumes (R.remaining reader.old) (R.remaining reader.new) result buf.new }
+    ensures retried { IfErr result (λ e. error_kind e ≢ ErrorKind.Interrupted) }
 {
-    let mut read = reader.read(buf);
     for _ in 0..u64::MAX {
-        match &read {
+        match reader.read(buf) {
             Err(e) if e.kind() == ErrorKind::Interrupted => {}
-            _ => break,
+            answer => return answer,
         }
-        read = reader.read(buf);
     }
-    read
+    Err(io::Error::from(ErrorKind::TimedOut))
 }
 
-/// A write that is tried again as long as it is interrupted.
+/// One write, tried again while it is interrupted.
 fn write_some<W: Write>(writer: &mut W, piece: &[u8]) -> io::Result<usize>
     ensures bound { WritesAtMost result piece.now }
     ensures bytes { WriteAppends (W.contents writer.old) (W.contents writer.new) result piece.now }
+    ensures retried { IfErr result (λ e. error_kind e ≢ ErrorKind.Interrupted) }
 {
-    let mut wrote = writer.write(piece);
     for _ in 0..u64::MAX {
-        match &wrote {
+        match writer.write(piece) {
             Err(e) if e.kind() == ErrorKind::Interrupted => {}
-            _ => break,
+            answer => return answer,
         }
-        wrote = writer.write(piece);
     }
-    wrote
+    Err(io::Error::from(ErrorKind::TimedOut))
 }
 
 impl<R: Read> PipeIn<R> {
-    /// A source that hasn't failed and hasn't ended.
+    /// A source over this reader, which hasn't failed and hasn't ended.
     pub fn new(reader: R) -> PipeIn<R>
         ensures { result ≡ record { reader = reader; faults = 0; ended = false } }
     {
@@ -71,7 +79,7 @@ impl<R: Read> PipeIn<R> {
         }
     }
 
-    /// How often a read failed. The count stands still at its type's end.
+    /// How often a read has failed. The count saturates at `u64::MAX`.
     pub fn read_faults(&self) -> u64
         ensures { result ≡ self.now.faults }
     {
@@ -80,14 +88,14 @@ impl<R: Read> PipeIn<R> {
 }
 
 impl<W: Write> PipeOut<W> {
-    /// A sink that hasn't failed.
+    /// A sink over this writer, which hasn't failed.
     pub fn new(writer: W) -> PipeOut<W>
         ensures { result ≡ record { writer = writer; faults = 0 } }
     {
         PipeOut { writer, faults: 0 }
     }
 
-    /// How often a write failed. The count stands still at its type's end.
+    /// How often a write has failed. The count saturates at `u64::MAX`.
     pub fn write_faults(&self) -> u64
         ensures { result ≡ self.now.faults }
     {
@@ -99,7 +107,7 @@ impl<R: Read> Source for PipeIn<R> {
     ghost use Rattle.std.specs.Prelude.{◌≡◌, ◌<◌, length};
     ghost use Rattle.std.specs.Io.KnownBytes.{IsAtEnd};
     ghost use Rattle.ig_link.specs.States.{no_sink};
-    ghost use Rattle.ig_link.specs.Calls.{ReadsAs};
+    ghost use Rattle.ig_link.specs.ReadsAs.{ReadsAs};
     ghost use Rattle.ig_link.specs.Pipes.{pipe_source};
 
     ghost source = { pipe_source R.remaining };
@@ -108,8 +116,9 @@ impl<R: Read> Source for PipeIn<R> {
         requires { 0 < length buf.old }
         ensures answer { ReadsAs result (pipe_source R.remaining self.old) (pipe_source R.remaining self.new) buf.new }
         ensures beside { no_sink ≡ no_sink }
-        // The end is the reader's.
+        // The end is the reader's, and no later read reaches the reader.
         ensures end { result ≡ Take.End → self.old.ended ≡ false → IsAtEnd (R.remaining self.new.reader) }
+        ensures stays { self.old.ended ≡ true → (result ≡ Take.End) × (self.new ≡ self.old) }
     {
         if self.ended {
             return Take::End;

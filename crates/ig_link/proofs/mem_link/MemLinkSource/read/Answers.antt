@@ -1,5 +1,5 @@
 use Rattle.std.proofs.Common.{length, arith, ◌<◌}
-use Rattle.ig_link.proofs.StepLemmas.{reads_as}
+use Rattle.ig_link.proofs.ScriptLemmas.{reads_as}
 use Rattle.ig_link.proofs.mem_link.MemLinkSource.read.Goals as goal
 
 pub returns-clause-answer : goal.returns-clause-answer

@@ -1,5 +1,5 @@
-use Rattle.ig_link.proofs.StepLemmas.{stops_at}
-use Rattle.ig_link.proofs.mem_link.next_place.Goals as goal
+use Rattle.ig_link.proofs.ScriptLemmas.{stops_at}
+use Rattle.ig_link.proofs.mem_link.skip_empty_steps.Goals as goal
 use Rattle.std.proofs.Common.{◌∙◌, arith}
 
 pub returns-in_default-clause-steps : goal.returns-in_default-clause-steps
