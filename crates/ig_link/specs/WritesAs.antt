@@ -1,5 +1,5 @@
 -- What each answer of a write, or of sending a whole piece, says of the sink before and after it.
-use Rattle.std.specs.Prelude.{◌≡◌, ℕ, ◌<◌, ◌≤◌, true, false, List, [], length, take}
+use Rattle.std.specs.Prelude.{◌≡◌, ℕ, ◌<◌, ◌≤◌, false, List, [], length, take}
 use Rattle.ig_link.specs.States.{SinkState, Rose, SinkAdvances}
 use Rattle.ig_link.specs.declared.ends.Gave.{Gave}
 use Rattle.ig_link.specs.declared.ends.Gave.TheVariants as gave
