@@ -1,16 +1,16 @@
 -- Lemmas on frames and on how a stream is cut into them.
-use Rattle.std.proofs.Common.{◌≡◌, ℕ, zero, suc, ◌+◌, ◌-◌, ◌≤◌, ℤ, pos, negsuc, ◌&&◌, List, [], ◌∷◌, ◌++◌, length, length-take-le, take, drop, Option, None, Some, refl, sym, ap, ◌∙◌, arith, subst, append_assoc, append-nil, inl, inr}
+use Rattle.std.proofs.Common.{◌≡◌, ℕ, zero, suc, ◌+◌, ◌-◌, ◌<◌, ◌≤◌, ℤ, pos, negsuc, ◌&&◌, List, [], ◌∷◌, ◌++◌, length, length-take-le, take, drop, Option, None, Some, refl, sym, ap, ◌∙◌, arith, subst, append_assoc, append-nil, inl, inr}
 use Rattle.std.proofs.lemmas.Bool.{le-ltb, lt-ltb, le-leb, leb-true, cond-true, cond-false, cases_Bool, cases_lt, and_from, and_parts}
 use Rattle.std.proofs.lemmas.Grind.{flat_map-append}
 use Rattle.std.proofs.lemmas.Int.{ints}
-use Rattle.std.proofs.lemmas.List.{get_or-append-add, length-append, length-drop, drop-drop, take_at, drop_at, take-append-drop}
+use Rattle.std.proofs.lemmas.List.{get_or-append-add, length-append, length-drop, drop-drop, take_at, drop_at, take-append-drop, take-append-le, drop-append-le}
 use Rattle.std.specs.Prelude.{nat_lt, nat_le}
-use Rattle.std.specs.Int.{w32}
+use Rattle.std.specs.Int.{w32, cast_signed, from_le_bytes}
 use Rattle.std.specs.Int.RustNames.{FitsSigned}
 use Rattle.std.specs.List.{flat_map, AllByRecursion}
 use Rattle.ig_base.specs.Numbers.{LE, number_at, AreBytes}
 use Rattle.ig_base.specs.Frames.{max_body, Frame, Side, least_after, IsBody, AreBodies, Begins, Front, Body, Bad, Incomplete, front, front_from, front_sized, IsOutOfRange, HasNoFrame, Cut}
-use Rattle.ig_base.proofs.NumberLemmas.{length-LE_32, number_at-LE_32, LE-number_at_32, number_at-within}
+use Rattle.ig_base.proofs.NumberLemmas.{length-LE_32, number_at-LE_32, LE-number_at_32, number_at-within, number_at-enough, number_at-short}
 
 pub length-Frame : (body : List ℕ) → length (Frame body) ≡ 4 + length body
 unfolding Frame
@@ -120,6 +120,88 @@ unfolding front
 front-bad least bytes n are h =
     let found = bad_number least bytes n (number_at w32 bytes 0) h in
     (number_at-within n bytes found.0, LE-number_at_32 n bytes are found.0, found.1)
+
+-- ---- incomplete frames
+
+-- less than the four bytes of a length
+pub front-short : (least : ℕ) (bytes : List ℕ) → length bytes < 4 → front least bytes ≡ Incomplete (4 - length bytes)
+unfolding front
+front-short least bytes short = ap (front_from least bytes) (number_at-short bytes short)
+
+sized_incomplete : (n missing : ℕ) (bytes : List ℕ) → front_sized n bytes ≡ Incomplete missing → (length bytes < n) × (missing ≡ n - length bytes)
+sized_incomplete n missing bytes h = elim (cases_lt (length bytes) n) [
+  | inl short ↦
+      let part = cond-true (nat_lt (length bytes) n) (Incomplete (n - length bytes)) (Body (take n bytes) (drop n bytes)) (lt-ltb _ _ short) in
+      let same : missing ≡ n - length bytes = cc in
+      (short, same)
+  | inr long ↦ let whole = cond-false (nat_lt (length bytes) n) (Incomplete (n - length bytes)) (Body (take n bytes) (drop n bytes)) (le-ltb _ _ long) in cc
+]
+
+-- the length that an incomplete frame begins with, if all its four bytes are there
+record BeginsIncomplete (least missing : ℕ) (bytes : List ℕ) (n : ℕ) : Type 0 where
+  read : number_at w32 bytes 0 ≡ Some (pos n)
+  low : least ≤ n
+  high : n ≤ max_body
+  short : length (drop 4 bytes) < n
+  missing_is : missing ≡ n - length (drop 4 bytes)
+
+number_incomplete : (least missing : ℕ) (bytes : List ℕ) (read : Option ℤ) → 4 ≤ length bytes → number_at w32 bytes 0 ≡ read
+    → front_from least bytes read ≡ Incomplete missing → (n : ℕ) × BeginsIncomplete least missing bytes n
+number_incomplete least missing bytes None long e h = let some = number_at-enough bytes long in cc
+number_incomplete least missing bytes (Some (negsuc n)) long e h = cc
+number_incomplete least missing bytes (Some (pos n)) long e h =
+    let inside = front_sized n (drop 4 bytes) in
+    elim (cases_Bool (nat_le least n && nat_le n max_body)) [
+      | inl fits ↦
+          let both = and_parts _ _ fits in
+          let part = sized_incomplete n missing (drop 4 bytes) (sym (cond-true (nat_le least n && nat_le n max_body) inside (Bad (pos n)) fits) ∙ h) in
+          (n, record { read = e; low = leb-true _ _ both.0; high = leb-true _ _ both.1; short = part.0; missing_is = part.1 })
+      | inr out ↦ let bad = cond-false (nat_le least n && nat_le n max_body) inside (Bad (pos n)) out in cc
+    ]
+
+-- more bytes after a length leave the length
+front-more : (least n : ℕ) (bytes more : List ℕ) → 4 ≤ length bytes → number_at w32 bytes 0 ≡ Some (pos n) → least ≤ n → n ≤ max_body
+    → front least (bytes ++ more) ≡ front_sized n (drop 4 bytes ++ more)
+unfolding front
+front-more least n bytes more long read low high =
+    let whole : number_at w32 (bytes ++ more) 0 ≡ Some (pos n) =
+    number_at-enough (bytes ++ more) (omega (arith, length-append bytes more))
+    ∙ ap (λ l. Some (cast_signed w32 (from_le_bytes w32 l))) (take-append-le 4 bytes more long) ∙ sym (number_at-enough bytes long) ∙ read in
+    ap (front_from least (bytes ++ more)) whole ∙ in_range least n (bytes ++ more) low high ∙ ap (front_sized n) (drop-append-le 4 bytes more long)
+
+-- an incomplete frame with fewer bytes than are missing is incomplete
+pub front-fewer : (least : ℕ) (bytes more : List ℕ) (missing : ℕ) → front least bytes ≡ Incomplete missing → length more < missing
+    → front least (bytes ++ more) ≡ Incomplete (missing - length more)
+unfolding front
+front-fewer least bytes more missing h fewer = elim (cases_lt (length bytes) 4) [
+  | inl short ↦
+      let now = front-short least bytes short in
+      let same : missing ≡ 4 - length bytes = cc in
+      let all = length-append bytes more in
+      front-short least (bytes ++ more) (omega (arith, all, same))
+      ∙ ap Incomplete (omega (arith, all, same))
+  | inr long ↦
+      let found = number_incomplete least missing bytes (number_at w32 bytes 0) long refl h in
+      let n = found.0 in
+      let all = length-append (drop 4 bytes) more in
+      front-more least n bytes more long found.1.read found.1.low found.1.high
+      ∙ cond-true (nat_lt (length (drop 4 bytes ++ more)) n) _ _ (lt-ltb _ _ (omega (arith, all, found.1.short, found.1.missing_is)))
+      ∙ ap Incomplete (omega (arith, all, found.1.missing_is))
+]
+
+-- with the bytes that are missing after a length the frame is whole
+pub front-completed : (least : ℕ) (bytes more : List ℕ) (missing : ℕ) → 4 ≤ length bytes → front least bytes ≡ Incomplete missing → length more ≡ missing
+    → (body : List ℕ) × (front least (bytes ++ more) ≡ Body body [])
+unfolding front
+front-completed least bytes more missing long h enough =
+    let found = number_incomplete least missing bytes (number_at w32 bytes 0) long refl h in
+    let n = found.0 in
+    let body : List ℕ = drop 4 bytes ++ more in
+    let size : length body ≡ n = omega (arith, length-append (drop 4 bytes) more, found.1.short, found.1.missing_is) in (
+      body,
+      front-more least n bytes more long found.1.read found.1.low found.1.high
+      ∙ ap (λ (l : List ℕ). front_sized n l) (sym (append-nil body)) ∙ ap (λ k. front_sized k (body ++ [])) (sym size) ∙ sized_whole body [],
+    )
 
 -- ---- the bodies of a stream's first frames
 
