@@ -15,9 +15,9 @@ use std::io::{ErrorKind, Read, Write};
 /// A source over a reader of std. A read of 0 bytes is the end, after which the reader isn't read again.
 /// An interrupted read is tried again, and any other error is a failed read.
 ///
-/// It tells the bytes still to come if the reader does, as a `Cursor`; files, pipes and terminals
-/// tell none. No contract says when a reader of std fails. So that a read fails only where the
-/// reader did, and is tried again after an interruption and not instead of it, is tested.
+/// It tells the bytes still to come if the reader does, as a `Cursor`; files, pipes and terminals tell
+/// none. No contract of std says when a reader fails. So two things are tested and not proved: a read
+/// fails only if the reader fails, and only an interrupted read is tried again.
 #[derive(Drop)]
 pub struct PipeIn<R> {
     reader: R,
@@ -29,15 +29,15 @@ pub struct PipeIn<R> {
 /// and so is a write that takes 0 bytes.
 ///
 /// It tells the bytes written if the writer does, as a `Vec<u8>`; files, pipes and terminals tell
-/// none. No contract says when a writer of std fails. So that a write fails only where the writer
-/// did, and is tried again after an interruption and not instead of it, is tested.
+/// none. No contract of std says when a writer fails. So two things are tested and not proved: a write
+/// fails only if the writer fails or takes 0 bytes, and only an interrupted write is tried again.
 #[derive(Drop)]
 pub struct PipeOut<W> {
     writer: W,
     faults: u64,
 }
 
-/// One read, tried again while it is interrupted.
+/// One read, tried again while it is interrupted, at most `u64::MAX` times in all.
 fn read_some<R: Read>(reader: &mut R, buf: &mut [u8]) -> io::Result<usize>
     ensures bound { ReadsAtMost result buf.new }
     ensures bytes { ReadConsumes (R.remaining reader.old) (R.remaining reader.new) result buf.new }
@@ -52,7 +52,7 @@ fn read_some<R: Read>(reader: &mut R, buf: &mut [u8]) -> io::Result<usize>
     Err(io::Error::from(ErrorKind::TimedOut))
 }
 
-/// One write, tried again while it is interrupted.
+/// One write, tried again while it is interrupted, at most `u64::MAX` times in all.
 fn write_some<W: Write>(writer: &mut W, piece: &[u8]) -> io::Result<usize>
     ensures bound { WritesAtMost result piece.now }
     ensures bytes { WriteAppends (W.contents writer.old) (W.contents writer.new) result piece.now }
@@ -114,10 +114,12 @@ impl<R: Read> Source for PipeIn<R> {
 
     fn read(&mut self, buf: &mut [u8]) -> Take
         requires { 0 < length buf.old }
-        ensures answer { ReadsAs result (pipe_source R.remaining self.old) (pipe_source R.remaining self.new) buf.new }
+        ensures answer { ReadsAs result
+            (pipe_source R.remaining self.old) (pipe_source R.remaining self.new) buf.new }
         ensures beside { no_sink ≡ no_sink }
         // The end is the reader's, and no later read reaches the reader.
-        ensures end { result ≡ Take.End → self.old.ended ≡ false → IsAtEnd (R.remaining self.new.reader) }
+        ensures end { result ≡ Take.End → self.old.ended ≡ false
+            → IsAtEnd (R.remaining self.new.reader) }
         ensures stays { self.old.ended ≡ true → (result ≡ Take.End) × (self.new ≡ self.old) }
     {
         if self.ended {
