@@ -200,7 +200,7 @@ front-completed least bytes more missing long h enough =
     let size : length body ≡ n = omega (arith, length-append (drop 4 bytes) more, found.1.short, found.1.missing_is) in (
       body,
       front-more least n bytes more long found.1.read found.1.low found.1.high
-      ∙ ap (λ (l : List ℕ). front_sized n l) (sym (append-nil body)) ∙ ap (λ k. front_sized k (body ++ [])) (sym size) ∙ sized_whole body [],
+          ∙ ap (λ (l : List ℕ). front_sized n l) (sym (append-nil body)) ∙ ap (λ k. front_sized k (body ++ [])) (sym size) ∙ sized_whole body [],
     )
 
 -- ---- the bodies of a stream's first frames

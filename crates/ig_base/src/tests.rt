@@ -1,9 +1,9 @@
 use super::*;
 use std::test::Fail;
 
-/// Each number with its bytes, lowest first.
+/// Each number is written as its bytes, lowest first, and read from them.
 #[test]
-fn numbers_both_ways(rt: HostRuntime) -> Result<(), Fail> {
+fn numbers_come_back(rt: HostRuntime) -> Result<(), Fail> {
     let shorts: [(i16, [u8; 2]); 4] = [
         (0, [0, 0]),
         (1, [1, 0]),
@@ -45,9 +45,9 @@ fn numbers_both_ways(rt: HostRuntime) -> Result<(), Fail> {
     Ok(())
 }
 
-/// A number is read at any place at which it lies wholly in the bytes, and at no other.
+/// A number is read at every offset at which all its bytes lie in the slice, and at no other.
 #[test]
-fn places(rt: HostRuntime) {
+fn numbers_are_read_at_any_offset(rt: HostRuntime) {
     let bytes: [u8; 6] = [9, 1, 0, 0, 0, 9];
     assert_eq!(rt; get_i32(&bytes, 1), Some(1));
     assert_eq!(rt; get_i32(&bytes, 2), Some(0x0900_0000));
@@ -57,9 +57,9 @@ fn places(rt: HostRuntime) {
     assert_eq!(rt; get_i16(&bytes, usize::MAX), None);
 }
 
-/// Hashes that Java's `String` has, one of a text outside the basic plane.
+/// Hashes as Java's `String.hashCode` has them, one of a text with a surrogate pair.
 #[test]
-fn hashes(rt: HostRuntime) {
+fn hashes_are_those_of_java(rt: HostRuntime) {
     let table: [(&str, i32); 5] = [
         ("", 0),
         ("a", 97),
@@ -72,9 +72,9 @@ fn hashes(rt: HostRuntime) {
     }
 }
 
-/// What is made of std's types is given back as it was.
+/// A vector or a string that was wrapped is unwrapped as it was.
 #[test]
-fn given_back(rt: HostRuntime) -> Result<(), Fail> {
+fn wrapped_values_come_back(rt: HostRuntime) -> Result<(), Fail> {
     let mut octets = Octets::new(Vec::from_slice(rt.alloc(), &[1, 2])?);
     octets.push(3)?;
     octets.append(&[4, 5])?;
@@ -89,5 +89,13 @@ fn given_back(rt: HostRuntime) -> Result<(), Fail> {
     let items = Items::new(Vec::from_slice(rt.alloc(), &[7u64, 8])?);
     assert!(rt; items.as_slice() == [7, 8].as_slice());
     assert_eq!(rt; items.into_std().len(), 2);
+    Ok(())
+}
+
+/// The texts of the errors, with and without an argument handed back.
+#[test]
+fn errors_say_no_memory(rt: HostRuntime) -> Result<(), Fail> {
+    let text = format!(in rt.alloc(); "{} / {}", NoMemory, NoRoom { back: 7u64 })?;
+    assert!(rt; text.as_str() == "no memory / no memory");
     Ok(())
 }
