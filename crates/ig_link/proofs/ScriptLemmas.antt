@@ -9,8 +9,7 @@ use Rattle.ig_link.specs.declared.ends.Take.{Take}
 use Rattle.ig_link.specs.declared.ends.Take.TheVariants as took
 use Rattle.ig_link.specs.declared.mem_link.ReadStep.{ReadStep}
 use Rattle.ig_link.specs.declared.mem_link.ReadStep.TheVariants as reads
-use Rattle.ig_link.specs.Script.{Script, script_source, bytes_of, is_read_fault, after_empty_steps, next_count, NextRead, ScriptReads}
-use Rattle.ig_link.specs.Script.{steps_from_offset}
+use Rattle.ig_link.specs.Script.{Script, script_source, bytes_of, is_read_fault, after_empty_steps, next_count, NextRead, ScriptReads, steps_from_offset}
 
 after_empty_steps-some : (bytes : List ℕ) (steps : List ReadStep) → 0 < length bytes → after_empty_steps (reads.Bytes bytes ∷ steps) ≡ reads.Bytes bytes ∷ steps
 after_empty_steps-some [] steps some = absurd (omega arith)

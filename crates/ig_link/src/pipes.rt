@@ -4,7 +4,7 @@ ghost use Rattle.std.specs.Prelude.{◌≡◌, ◌≢◌, ◌<◌, length, None,
 ghost use Rattle.std.specs.IoError.{error_kind};
 ghost use Rattle.std.specs.Io.KnownBytes.{IsAtEnd, Keeps, ReadConsumes, WriteAppends};
 ghost use Rattle.std.specs.Io.{ReadsAtMost, WritesAtMost};
-ghost use Rattle.ig_link.specs.States.{SourceState, SinkState, no_sink};
+ghost use Rattle.ig_link.specs.States.{SourceState, SinkState};
 ghost use Rattle.ig_link.specs.ReadsAs.{ReadsAs};
 ghost use Rattle.ig_link.specs.WritesAs.{WritesAs};
 
@@ -106,7 +106,6 @@ impl<W: Write> PipeOut<W> {
 impl<R: Read> Source for PipeIn<R> {
     ghost use Rattle.std.specs.Prelude.{◌≡◌, ◌<◌, length};
     ghost use Rattle.std.specs.Io.KnownBytes.{IsAtEnd};
-    ghost use Rattle.ig_link.specs.States.{no_sink};
     ghost use Rattle.ig_link.specs.ReadsAs.{ReadsAs};
     ghost use Rattle.ig_link.specs.Pipes.{pipe_source};
 
@@ -116,7 +115,6 @@ impl<R: Read> Source for PipeIn<R> {
         requires { 0 < length buf.old }
         ensures answer { ReadsAs result
             (pipe_source R.remaining self.old) (pipe_source R.remaining self.new) buf.new }
-        ensures beside { no_sink ≡ no_sink }
         // The end is the reader's, and no later read reaches the reader.
         ensures end { result ≡ Take.End → self.old.ended ≡ false
             → IsAtEnd (R.remaining self.new.reader) }

@@ -1,6 +1,5 @@
 use Rattle.std.proofs.Common.{length, ◌-◌, ◌≡◌, ◌≤◌, drop}
-use Rattle.ig_link.specs.Script.{after_empty_steps}
-use Rattle.ig_link.specs.Script.{steps_from_offset}
+use Rattle.ig_link.specs.Script.{after_empty_steps, steps_from_offset}
 use Rattle.ig_link.proofs.mem_link.skip_empty_steps.Given as goal
 
 -- the steps skipped so far have no bytes left

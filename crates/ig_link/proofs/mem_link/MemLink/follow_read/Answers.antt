@@ -1,9 +1,8 @@
 use Rattle.std.proofs.Common.{◌≡◌, ℕ, ◌+◌, ◌<◌, true, List, min, is_ok, length, take, drop, sym, ap, ◌∙◌, refl, ◌++◌, arith, rules, length-drop}
 use Rattle.std.proofs.lemmas.Bool.{ltb-true, cond-true, false_from_ne_true}
 use Rattle.std.proofs.lemmas.List.{length-append, length-take-le}
-use Rattle.ig_link.specs.Script.{bytes_of}
+use Rattle.ig_link.specs.Script.{bytes_of, steps_from_offset}
 use Rattle.ig_link.specs.MemLink.{reads_left}
-use Rattle.ig_link.specs.Script.{steps_from_offset}
 use Rattle.ig_link.proofs.ScriptLemmas.{fault_passed, BytesPassed, bytes_passed, reads_bytes}
 use Rattle.ig_link.proofs.mem_link.MemLink.follow_read.Goals as goal
 
