@@ -7,6 +7,7 @@
 //! Contracts see [`Text`], [`Octets`] and [`Items`] as lists, so that a tree of them is plain data.
 #![tactic(auto)]
 
+mod entry;
 mod frames;
 mod hashes;
 mod items;
@@ -16,6 +17,7 @@ mod numbers;
 mod octets;
 mod text;
 
+pub use entry::Entry;
 pub use frames::{frame_is_read, one_cut};
 pub use hashes::text_hash;
 pub use items::Items;

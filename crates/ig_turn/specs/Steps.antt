@@ -1,13 +1,13 @@
 -- What each step on the table tells the seat that makes it.
-use Rattle.std.specs.Prelude.{◌≡◌, ◌≢◌, ◌⊎◌, ℕ, ◌<◌, true, false, cond, nat_lt, List, [], ◌∷◌, ◌++◌, length}
+use Rattle.std.specs.Prelude.{◌≡◌, ◌≢◌, ◌⊎◌, ℕ, ◌<◌, ◌≤◌, ◌^◌, true, false, cond, nat_lt, List, [], ◌∷◌, ◌++◌, length}
+use Rattle.std.specs.List.{AllByRecursion}
 use mathlib.Core.List.{IsPrefix}
 use Rattle.atomic_table.specs.Table.{Me, Step}
-use Rattle.ig_turn.specs.declared.view.Entry.{Entry}
+use Rattle.ig_base.specs.declared.entry.Entry.{Entry}
 use Rattle.ig_turn.specs.declared.view.Stage.{Stage}
 use Rattle.ig_turn.specs.declared.view.Stage.TheVariants.{Idle, Waiting, Holding, Drawn}
 use Rattle.ig_turn.specs.declared.view.View.{View}
-use Rattle.ig_turn.specs.History.{pairs_of, under, ended, entry, IsWhole, IsLonger}
-use Rattle.ig_turn.specs.Rule.{Each}
+use Rattle.ig_turn.specs.History.{pairs_of, entries_of, ended, entry, IsWhole, IsLonger}
 
 module _ {A G : Type 0} where
   abbrev pub drawn_number : Stage A G → ℕ
@@ -32,8 +32,8 @@ module _ {A G : Type 0} where
 
 module _ {X A G : Type 0} where
   -- the view at another stage
-  abbrev pub staged : View X A G → Stage A G → View X A G
-  staged v st = record v { stage = st }
+  abbrev pub with_stage : View X A G → Stage A G → View X A G
+  with_stage v st = record v { stage = st }
 
   abbrev pub IsLegalView : (X → List (A × G) → Type 0) → View X A G → Type 0
   IsLegalView runs v = runs v.start (pairs_of v.seen)
@@ -42,30 +42,30 @@ module _ {X A G : Type 0} where
   opening_view x = record { start = x; stage = Idle; live = true; number = 0; seen = []; met = []; own = []; ended = []; born = [] }
 
   -- a view that has no number: of a seat that was joined, or of a note from one seat to another
-  abbrev pub lifeless : X → List (Entry A G) → View X A G
-  lifeless x seen = record { start = x; stage = Idle; live = false; number = 0; seen = seen; met = []; own = []; ended = []; born = [] }
+  abbrev pub numberless_view : X → List (Entry A G) → View X A G
+  numberless_view x seen = record { start = x; stage = Idle; live = false; number = 0; seen = seen; met = []; own = []; ended = []; born = [] }
 
   abbrev pub IsWholeView : View X A G → Type 0
-  IsWholeView v = IsWhole v.number v.seen v.own v.ended v.born
+  IsWholeView v = IsWhole v.number v.seen v.own v.ended v.born × (length v.seen ≤ 2 ^ 62)
 
   -- the view of the new seat, and what is left to the old one
-  abbrev pub split_right : View X A G → View X A G
-  split_right v = record { start = v.start; stage = Idle; live = true; number = drawn_number v.stage; seen = v.seen; met = []; own = []; ended = []; born = [] }
+  abbrev pub right_of_split : View X A G → View X A G
+  right_of_split v = record { start = v.start; stage = Idle; live = true; number = drawn_number v.stage; seen = v.seen; met = []; own = []; ended = []; born = [] }
 
-  abbrev pub split_left : View X A G → View X A G
-  split_left v = staged v Idle
+  abbrev pub left_of_split : View X A G → View X A G
+  left_of_split v = with_stage v Idle
 
   -- a note of what the seat has seen
   abbrev pub note_of : View X A G → View X A G
-  note_of v = lifeless v.start v.seen
+  note_of v = numberless_view v.start v.seen
 
   -- a view that has taken in another's, whose list it keeps beside its own
-  abbrev pub glued : View X A G → View X A G → View X A G
-  glued v w = record v { met = w.seen; ended = v.ended ++ (w.ended ++ ended w.number w.own ∷ []); born = v.born ++ w.born }
+  abbrev pub merged_view : View X A G → View X A G → View X A G
+  merged_view v w = record v { met = w.seen; ended = v.ended ++ (w.ended ++ ended w.number w.own ∷ []); born = v.born ++ w.born }
 
   -- a view that has taken in a note
-  abbrev pub informed : View X A G → View X A G → View X A G
-  informed v w = record v { met = w.seen }
+  abbrev pub informed_view : View X A G → View X A G → View X A G
+  informed_view v w = record v { met = w.seen }
 
   abbrev pub settled_view : View X A G → View X A G
   settled_view v = record v { seen = longer_of v.seen v.met; met = [] }
@@ -76,7 +76,7 @@ module _ {X A G : Type 0} where
 
   -- each list that is kept under a number is what either list of the view has under it
   abbrev pub KeepsParts : View X A G → Type 0
-  KeepsParts v = Each (λ e. (under e.number v.seen ≡ e.own) ⊎ (under e.number v.met ≡ e.own)) (ended v.number v.own ∷ v.ended)
+  KeepsParts v = AllByRecursion (λ e. (entries_of e.number v.seen ≡ e.own) ⊎ (entries_of e.number v.met ≡ e.own)) (ended v.number v.own ∷ v.ended)
 
   -- the view has seen more, and then its own call
   abbrev pub AddsView : View X A G → View X A G → A → G → Type 0
@@ -96,31 +96,31 @@ module _ {X A G : Type 0} where
     Carries stands me pairs = (o : O) × (me.1 ≡ (0, o) ∷ []) × stands o me.0.start pairs
 
     -- a ticket was drawn where the word was as expected
-    abbrev pub draws_ticket : Step O → Me O (View X A G) → ℕ → Me O (View X A G) → Type 0
-    draws_ticket s me found me' = (found ≡ s.first → me' ≡ (staged me.0 (Waiting found), me.1)) × (found ≢ s.first → me' ≡ me)
+    abbrev pub DrawsTicket : Step O → Me O (View X A G) → ℕ → Me O (View X A G) → Type 0
+    DrawsTicket s me found me' = (found ≡ s.first → me' ≡ (with_stage me.0 (Waiting found), me.1)) × (found ≢ s.first → me' ≡ me)
 
     -- the object was taken where the seat's ticket is served
-    abbrev pub takes_object : (O → X → List (A × G) → Type 0) → Step O → Me O (View X A G) → ℕ → Me O (View X A G) → Type 0
-    takes_object stands s me found me' = (t : ℕ) → me.0.stage ≡ Waiting t
-        → (found ≡ t → (o : O) × (l : List (Entry A G)) × (me' ≡ (staged me.0 (Holding t l 0), (0, o) ∷ me.1)) × stands o me.0.start (pairs_of l) × IsPrefix me.0.seen l)
+    abbrev pub TakesObject : (O → X → List (A × G) → Type 0) → Step O → Me O (View X A G) → ℕ → Me O (View X A G) → Type 0
+    TakesObject stands s me found me' = (t : ℕ) → me.0.stage ≡ Waiting t
+        → (found ≡ t → (o : O) × (l : List (Entry A G)) × (me' ≡ (with_stage me.0 (Holding t l 0), (0, o) ∷ me.1)) × stands o me.0.start (pairs_of l) × IsPrefix me.0.seen l)
         × (found ≢ t → me' ≡ me)
 
     -- these calls, one of them, were committed
-    abbrev pub commits : List (A × G) → Step O → Me O (View X A G) → ℕ → Me O (View X A G) → Type 0
-    commits calls s me found me' = (t : ℕ) (l : List (Entry A G)) (ask : A) (got : G) → me.0.stage ≡ Holding t l 0 → calls ≡ (ask, got) ∷ []
+    abbrev pub Commits : List (A × G) → Step O → Me O (View X A G) → ℕ → Me O (View X A G) → Type 0
+    Commits calls s me found me' = (t : ℕ) (l : List (Entry A G)) (ask : A) (got : G) → me.0.stage ≡ Holding t l 0 → calls ≡ (ask, got) ∷ []
         → (me' ≡ (committed_view me.0 t l ask got, me.1)) × IsWholeView me'.0
 
     -- the object was given back, and the next ticket is served
-    abbrev pub passes : Step O → Me O (View X A G) → ℕ → Me O (View X A G) → Type 0
-    passes s me found me' = me' ≡ (staged me.0 Idle, [])
+    abbrev pub Passes : Step O → Me O (View X A G) → ℕ → Me O (View X A G) → Type 0
+    Passes s me found me' = me' ≡ (with_stage me.0 Idle, [])
 
     -- a number was drawn where the word was as expected
-    abbrev pub draws_number : Step O → Me O (View X A G) → ℕ → Me O (View X A G) → Type 0
-    draws_number s me found me' =
-        (found ≡ s.first → (me' ≡ (record me.0 { stage = Drawn found; born = me.0.born ++ found ∷ [] }, me.1)) × (me.0.number < found) × Each (λ n. n < found) me.0.born
-        × (under found me.0.seen ≡ []))
+    abbrev pub DrawsNumber : Step O → Me O (View X A G) → ℕ → Me O (View X A G) → Type 0
+    DrawsNumber s me found me' =
+        (found ≡ s.first → (me' ≡ (record me.0 { stage = Drawn found; born = me.0.born ++ found ∷ [] }, me.1)) × (me.0.number < found) × AllByRecursion (λ n. n < found) me.0.born
+        × (entries_of found me.0.seen ≡ []))
         × (found ≢ s.first → me' ≡ me)
 
     -- both lists that the view keeps are beginnings of the longer one, which it has seen from now on
-    abbrev pub settles : Step O → Me O (View X A G) → ℕ → Me O (View X A G) → Type 0
-    settles s me found me' = (me' ≡ (settled_view me.0, me.1)) × IsLonger me.0.seen me.0.met me'.0.seen × (KeepsParts me.0 → IsWholeView me'.0)
+    abbrev pub Settles : Step O → Me O (View X A G) → ℕ → Me O (View X A G) → Type 0
+    Settles s me found me' = (me' ≡ (settled_view me.0, me.1)) × IsLonger me.0.seen me.0.met me'.0.seen × (KeepsParts me.0 → IsWholeView me'.0)

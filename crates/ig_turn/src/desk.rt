@@ -1,17 +1,17 @@
 //! The table of a turn, and the steps of its calls.
 ghost use Rattle.std.specs.Prelude.{◌≡◌, ◌≢◌, ◌<◌, ◌≤◌, ℕ, true, length, List, [], ◌∷◌, ◌++◌, IfOk, IfErr, IfSome, IsOk, OnOk};
 ghost use mathlib.Core.List.{IsPrefix};
-ghost use Rattle.ig_turn.specs.declared.view.Entry.{Entry};
+ghost use Rattle.ig_base.specs.declared.entry.Entry.{Entry};
 ghost use Rattle.ig_turn.specs.declared.view.Stage.TheVariants.{Idle, Waiting, Holding, Drawn};
-ghost use Rattle.ig_turn.specs.History.{pairs_of, under, IsLonger};
-ghost use Rattle.ig_turn.specs.Rule.{Each};
-ghost use Rattle.ig_turn.specs.Steps.{opening_view, split_right, settled_view, glued, informed, note_of, IsAtRest, staged, committed_view, held_ticket, held_list, IsHolding, IsWholeView, IsLegalView, Carries, AddsView};
+ghost use Rattle.ig_turn.specs.History.{pairs_of, entries_of, IsLonger};
+ghost use Rattle.std.specs.List.{AllByRecursion};
+ghost use Rattle.ig_turn.specs.Steps.{opening_view, right_of_split, settled_view, merged_view, informed_view, note_of, IsAtRest, with_stage, committed_view, held_ticket, held_list, IsHolding, IsWholeView, IsLegalView, Carries, AddsView};
 
 use crate::backoff::Backoff;
 use crate::bell::Bell;
 use crate::plain::Plain;
 use crate::rule::{
-    Commit, Cut, DrawNumber, DrawTicket, Glue, InTurn, Inform, Made, Note, Pass, Settle, TakeObject,
+    Commit, SplitOff, DrawNumber, DrawTicket, Merge, InTurn, Inform, Made, Note, Pass, Settle, TakeObject,
 };
 use crate::view::View;
 use atomic_table::{Refused, Seat, Table};
@@ -95,7 +95,7 @@ impl<O: Plain> Desk<O> {
         requires id { place.old.table_id ≡ self.now.table.shared.table_id }
         requires idle { place.old.me.0.stage ≡ Idle }
         ensures id { (place.new.table_id ≡ place.old.table_id) × (place.new.id ≡ place.old.id) }
-        ensures drawn { place.new.me ≡ (staged place.old.me.0 (Waiting result), place.old.me.1) }
+        ensures drawn { place.new.me ≡ (with_stage place.old.me.0 (Waiting result), place.old.me.1) }
     {
         let mut backoff = Backoff::new();
         let mut slept = false;
@@ -153,7 +153,7 @@ impl<O: Plain> Desk<O> {
         requires id { place.old.table_id ≡ self.now.table.shared.table_id }
         requires waits { (place.old.me.0.stage ≡ Waiting ticket) × (place.old.me.0.live ≡ true) × (place.old.me.1 ≡ []) }
         ensures id { (place.new.table_id ≡ place.old.table_id) × (place.new.id ≡ place.old.id) }
-        ensures taken { (list : List (Entry O.AskData O.GotData)) × (place.new.me.0 ≡ staged place.old.me.0 (Holding ticket list 0)) × Carries O.stands place.new.me (pairs_of list) × IsPrefix place.old.me.0.seen list }
+        ensures taken { (list : List (Entry O.AskData O.GotData)) × (place.new.me.0 ≡ with_stage place.old.me.0 (Holding ticket list 0)) × Carries O.stands place.new.me (pairs_of list) × IsPrefix place.old.me.0.seen list }
     {
         for _ in rt.forever() {
             if self.table.shared.load::<TakeObject>(place, SERVING) == ticket {
@@ -200,7 +200,7 @@ impl<O: Plain> Desk<O> {
         requires id { place.old.table_id ≡ self.now.table.shared.table_id }
         requires idle { (place.old.me.0.stage ≡ Idle) × (place.old.me.0.live ≡ true) × (place.old.me.1 ≡ []) }
         ensures id { (place.new.table_id ≡ place.old.table_id) × (place.new.id ≡ place.old.id) }
-        ensures taken { (ticket : ℕ) × (list : List (Entry O.AskData O.GotData)) × (place.new.me.0 ≡ staged place.old.me.0 (Holding ticket list 0)) × Carries O.stands place.new.me (pairs_of list) × IsPrefix place.old.me.0.seen list }
+        ensures taken { (ticket : ℕ) × (list : List (Entry O.AskData O.GotData)) × (place.new.me.0 ≡ with_stage place.old.me.0 (Holding ticket list 0)) × Carries O.stands place.new.me (pairs_of list) × IsPrefix place.old.me.0.seen list }
     {
         let ticket = self.draw(rt, place);
         self.take(rt, place, ticket);
@@ -244,7 +244,7 @@ impl<O: Plain> Desk<O> {
         requires holds { (commits : ℕ) × IsHolding place.old.me.0.stage commits × (place.old.me.0.live ≡ true) }
         requires carries { Carries O.stands place.old.me (pairs_of (held_list place.old.me.0.stage)) }
         ensures id { (place.new.table_id ≡ place.old.table_id) × (place.new.id ≡ place.old.id) }
-        ensures passed { place.new.me ≡ (staged place.old.me.0 Idle, []) }
+        ensures passed { place.new.me ≡ (with_stage place.old.me.0 Idle, []) }
     {
         self.table.shared.fetch_add::<Pass>(place, SERVING, 1);
         self.bell.ring();
@@ -257,8 +257,8 @@ impl<O: Plain> Desk<O> {
         ensures id { (place.new.table_id ≡ place.old.table_id) × (place.new.id ≡ place.old.id) }
         ensures drawn { place.new.me ≡ (record place.old.me.0 { stage = Drawn result; born = place.old.me.0.born ++ result ∷ [] }, place.old.me.1) }
         ensures below { result < MOST }
-        ensures above { (place.old.me.0.number < result) × Each (λ n. n < result) place.old.me.0.born }
-        ensures unused { under result place.old.me.0.seen ≡ [] }
+        ensures above { (place.old.me.0.number < result) × AllByRecursion (λ n. n < result) place.old.me.0.born }
+        ensures unused { entries_of result place.old.me.0.seen ≡ [] }
     {
         for _ in rt.forever() {
             let number = self.table.shared.peek(SEATS);
@@ -285,13 +285,13 @@ impl<O: Plain> Desk<O> {
         requires rest { IsAtRest O.runs place.old.me.0 }
         ensures id { (place.new.table_id ≡ place.old.table_id) × (place.new.id ≡ place.old.id) × (result.1.table_id ≡ place.old.table_id) }
         ensures left { place.new.me ≡ (record place.old.me.0 { stage = Idle; born = place.old.me.0.born ++ result.0 ∷ [] }, place.old.me.1) }
-        ensures right { result.1.me ≡ (split_right (staged place.old.me.0 (Drawn result.0)), []) }
+        ensures right { result.1.me ≡ (right_of_split (with_stage place.old.me.0 (Drawn result.0)), []) }
         ensures below { result.0 < MOST }
-        ensures above { (place.old.me.0.number < result.0) × Each (λ n. n < result.0) place.old.me.0.born }
+        ensures above { (place.old.me.0.number < result.0) × AllByRecursion (λ n. n < result.0) place.old.me.0.born }
         ensures rest { IsAtRest O.runs place.new.me.0 × IsAtRest O.runs result.1.me.0 }
     {
         let number = self.draw_number(rt, place);
-        let fresh = self.table.shared.split_seat::<Cut>(place);
+        let fresh = self.table.shared.split_seat::<SplitOff>(place);
         (number, fresh)
     }
 
@@ -300,12 +300,22 @@ impl<O: Plain> Desk<O> {
         requires id { (place.old.table_id ≡ self.now.table.shared.table_id) × (other.table_id ≡ self.now.table.shared.table_id) }
         requires rest { IsAtRest O.runs place.old.me.0 × IsAtRest O.runs other.me.0 × (other.me.1 ≡ []) }
         ensures id { (place.new.table_id ≡ place.old.table_id) × (place.new.id ≡ place.old.id) }
-        ensures joined { place.new.me ≡ (settled_view (glued place.old.me.0 other.me.0), place.old.me.1) }
+        ensures joined { place.new.me ≡ (settled_view (merged_view place.old.me.0 other.me.0), place.old.me.1) }
         ensures seen { IsLonger place.old.me.0.seen other.me.0.seen place.new.me.0.seen }
         ensures whole { IsWholeView place.new.me.0 }
     {
-        self.table.shared.join_seat::<Glue<O>>(place, other);
+        self.table.shared.join_seat::<Merge<O>>(place, other);
         self.table.shared.load::<Settle>(place, COUNT);
+    }
+
+    /// What a seat has seen, as a seat that has no number.
+    pub(crate) fn note(&self, place: &mut Place<O>) -> Place<O>
+        requires id { place.old.table_id ≡ self.now.table.shared.table_id }
+        ensures id { (place.new.table_id ≡ place.old.table_id) × (place.new.id ≡ place.old.id) × (result.table_id ≡ place.old.table_id) }
+        ensures left { place.new.me ≡ place.old.me }
+        ensures note { result.me ≡ (note_of place.old.me.0, []) }
+    {
+        self.table.shared.split_seat::<Note>(place)
     }
 
     /// One seat tells another what it has seen.
@@ -314,11 +324,11 @@ impl<O: Plain> Desk<O> {
         requires rest { IsAtRest O.runs learner.old.me.0 }
         ensures id { (teller.new.table_id ≡ teller.old.table_id) × (teller.new.id ≡ teller.old.id) × (learner.new.table_id ≡ learner.old.table_id) × (learner.new.id ≡ learner.old.id) }
         ensures teller { teller.new.me ≡ teller.old.me }
-        ensures learner { learner.new.me ≡ (settled_view (informed learner.old.me.0 (note_of teller.old.me.0)), learner.old.me.1) }
+        ensures learner { learner.new.me ≡ (settled_view (informed_view learner.old.me.0 (note_of teller.old.me.0)), learner.old.me.1) }
         ensures seen { IsLonger learner.old.me.0.seen teller.old.me.0.seen learner.new.me.0.seen }
         ensures whole { IsWholeView learner.new.me.0 }
     {
-        let note = self.table.shared.split_seat::<Note>(teller);
+        let note = self.note(teller);
         self.table.shared.join_seat::<Inform<O>>(learner, note);
         self.table.shared.load::<Settle>(learner, COUNT);
     }

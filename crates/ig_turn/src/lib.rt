@@ -24,7 +24,8 @@ mod tests;
 mod turn;
 mod view;
 
+pub use ig_base::Entry;
 pub use plain::Plain;
 pub use seat::TurnSeat;
 pub use turn::Turn;
-pub use view::{Ended, Entry, Stage, View};
+pub use view::{Ended, Stage, View};

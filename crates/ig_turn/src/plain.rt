@@ -1,6 +1,6 @@
 //! What can be put behind a turn.
 ghost use Rattle.std.specs.Prelude.{◌≡◌, List, ◌++◌, IfOk, IfErr, IsOk};
-ghost use Rattle.ig_turn.specs.Objects.{GainsPair, KeepsPairs};
+ghost use Rattle.ig_turn.specs.GainsPair.{GainsPair, KeepsPairs};
 
 use ig_base::NoRoom;
 

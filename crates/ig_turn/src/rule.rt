@@ -1,7 +1,7 @@
 //! The rule of a turn's table, and what each step on it tells.
 ghost use Rattle.std.specs.Prelude.{List, []};
-ghost use Rattle.ig_turn.specs.Rule.{Ordered};
-ghost use Rattle.ig_turn.specs.Steps.{opening_view, lifeless, split_left, split_right, note_of, glued, informed, draws_ticket, takes_object, commits, passes, draws_number, settles};
+ghost use Rattle.ig_turn.specs.Ordered.{Ordered};
+ghost use Rattle.ig_turn.specs.Steps.{opening_view, numberless_view, left_of_split, right_of_split, note_of, merged_view, informed_view, DrawsTicket, TakesObject, Commits, Passes, DrawsNumber, Settles};
 
 use crate::plain::Plain;
 use crate::view::View;
@@ -21,13 +21,13 @@ impl<O: Plain> TableRule<O, View<O::Start, O::AskData, O::GotData>, Snapshot<O>>
 pub(crate) struct DrawTicket;
 
 impl<O, X, A, G> Play<O, View<X, A, G>> for DrawTicket {
-    ghost then = { draws_ticket };
+    ghost then = { DrawsTicket };
 }
 
 pub(crate) struct TakeObject;
 
 impl<O: Plain> Play<O, View<O::Start, O::AskData, O::GotData>> for TakeObject {
-    ghost then = { takes_object O.stands };
+    ghost then = { TakesObject O.stands };
 }
 
 /// The call that a commit adds to the history. Each commit picks it.
@@ -44,33 +44,33 @@ pub(crate) struct Commit<M> {
 }
 
 impl<O, X, A, G, M: Made<A, G>> Play<O, View<X, A, G>> for Commit<M> {
-    ghost then = { commits M.calls };
+    ghost then = { Commits M.calls };
 }
 
 pub(crate) struct Pass;
 
 impl<O, X, A, G> Play<O, View<X, A, G>> for Pass {
-    ghost then = { passes };
+    ghost then = { Passes };
 }
 
 pub(crate) struct DrawNumber;
 
 impl<O, X, A, G> Play<O, View<X, A, G>> for DrawNumber {
-    ghost then = { draws_number };
+    ghost then = { DrawsNumber };
 }
 
 pub(crate) struct Settle;
 
 impl<O, X, A, G> Play<O, View<X, A, G>> for Settle {
-    ghost then = { settles };
+    ghost then = { Settles };
 }
 
-pub(crate) struct Cut;
+pub(crate) struct SplitOff;
 
-impl<X, A, G> Split<View<X, A, G>> for Cut {
-    ghost left = { split_left };
+impl<X, A, G> Split<View<X, A, G>> for SplitOff {
+    ghost left = { left_of_split };
 
-    ghost right = { split_right };
+    ghost right = { right_of_split };
 }
 
 pub(crate) struct Note;
@@ -81,14 +81,14 @@ impl<X, A, G> Split<View<X, A, G>> for Note {
     ghost right = { note_of };
 }
 
-pub(crate) struct Glue<O> {
+pub(crate) struct Merge<O> {
     object: PhantomData<O>,
 }
 
-impl<O: Plain> Join<View<O::Start, O::AskData, O::GotData>> for Glue<O> {
-    ghost both = { glued };
+impl<O: Plain> Join<View<O::Start, O::AskData, O::GotData>> for Merge<O> {
+    ghost both = { merged_view };
 
-    ghost spent = { lifeless O.any_start [] };
+    ghost spent = { numberless_view O.any_start [] };
 }
 
 pub(crate) struct Inform<O> {
@@ -96,7 +96,7 @@ pub(crate) struct Inform<O> {
 }
 
 impl<O: Plain> Join<View<O::Start, O::AskData, O::GotData>> for Inform<O> {
-    ghost both = { informed };
+    ghost both = { informed_view };
 
-    ghost spent = { lifeless O.any_start [] };
+    ghost spent = { numberless_view O.any_start [] };
 }

@@ -15,7 +15,7 @@ pub struct TurnSeat<O: Plain> {
 
 impl<O: Plain> Model for TurnSeat<O> {
     ghost use Rattle.std.specs.Prelude.{◌≡◌, []};
-    ghost use Rattle.ig_turn.specs.States.{SeatState};
+    ghost use Rattle.ig_turn.specs.SeatState.{SeatState};
     ghost use Rattle.ig_turn.specs.Steps.{IsAtRest};
 
     ghost Value = { SeatState O.Start O.AskData O.GotData };

@@ -1,7 +1,7 @@
 //! The turn.
-ghost use Rattle.std.specs.Prelude.{◌≡◌, ◌<◌, ◌^◌, [], All, IfOk, IfErr, IsOk};
+ghost use Rattle.std.specs.Prelude.{◌≡◌, ◌≢◌, ◌<◌, ◌^◌, [], ◌∷◌, ◌++◌, All, IfOk, IfErr, IsOk};
 ghost use mathlib.Core.List.{IsPrefix};
-ghost use Rattle.ig_turn.specs.History.{IsOf, IsLegal, IsLonger, IsWholeSeat, Adds, opened, with_born, newcomer, joined_with, with_seen};
+ghost use Rattle.ig_turn.specs.History.{IsOf, IsLegal, IsLonger, IsWholeSeat, HasJoinedAll, Adds, entry, first_seat, with_born, newcomer, joined_with, with_seen};
 
 use crate::desk::Desk;
 use crate::plain::Plain;
@@ -9,6 +9,7 @@ use crate::seat::TurnSeat;
 use ig_base::NoRoom;
 use std::alloc::Global;
 use std::marker::Model;
+use std::mem;
 use std::sync::Wait;
 
 /// An object that many threads call, one at a time.
@@ -18,7 +19,7 @@ pub struct Turn<O: Plain> {
 }
 
 impl<O: Plain> Model for Turn<O> {
-    ghost use Rattle.ig_turn.specs.States.{TurnState};
+    ghost use Rattle.ig_turn.specs.SeatState.{TurnState};
 
     ghost Value = { TurnState O.Start };
 
@@ -30,7 +31,7 @@ impl<O: Plain> Turn<O> {
     pub fn new(alloc: Global, object: O) -> Result<(Turn<O>, TurnSeat<O>), NoRoom<O>>
         requires { O.stands object (O.start_of object) [] }
         ensures start { IfOk result (λ made. made.0.start ≡ O.start_of object) }
-        ensures seat { IfOk result (λ made. made.1 ≡ opened made.0) }
+        ensures seat { IfOk result (λ made. made.1 ≡ first_seat made.0) }
         ensures legal { IfOk result (λ made. IsLegal O.runs made.1) }
         ensures whole { IfOk result (λ made. IsWholeSeat made.1) }
         ensures err { IfErr result (λ none. none.back ≡ object) }
@@ -51,6 +52,7 @@ impl<O: Plain> Turn<O> {
         requires fits { O.fits ask }
         ensures own { IsOf self.now seat.new }
         ensures ok { IfOk result (λ got. Adds seat.old seat.new (O.ask_data ask) (O.got_data got)) }
+        ensures next { IfOk result (λ got. HasJoinedAll seat.old → seat.new.seen ≡ seat.old.seen ++ entry seat.old.number (O.ask_data ask) (O.got_data got) ∷ []) }
         ensures err { IfErr result (λ none. (none.back ≡ ask) × (seat.new ≡ seat.old)) }
         ensures sure { O.is_sure ask → IsOk result }
         ensures legal { IsLegal O.runs seat.new }
@@ -97,9 +99,17 @@ impl<O: Plain> Turn<O> {
         ensures learner { learner.new ≡ with_seen learner.old learner.new.seen }
         ensures seen { IsLonger learner.old.seen teller.old.seen learner.new.seen }
         ensures told { IsPrefix teller.new.seen learner.new.seen }
+        ensures different { teller.old.number ≢ learner.old.number }
         ensures legal { IsLegal O.runs learner.new }
         ensures whole { IsWholeSeat learner.new }
     {
+        if teller.number == learner.number {
+            // That is never so: a seat that takes another in has both numbers, and all its numbers differ.
+            let note = self.desk.note(&mut teller.place);
+            let place = mem::replace(&mut teller.place, note);
+            self.desk.join(&mut learner.place, place);
+            unreachable!()
+        }
         self.desk.meet(&mut teller.place, &mut learner.place);
     }
 }

@@ -1,12 +1,6 @@
 //! What a seat knows. All of it exists in proofs alone: no value of these types is made.
+use ig_base::Entry;
 use std::collections::LinkedList;
-
-/// One call in the history, under the number of the seat that made it.
-pub struct Entry<A, G> {
-    pub number: u64,
-    pub ask: A,
-    pub got: G,
-}
 
 /// The calls of a seat that was joined into another.
 pub struct Ended<A, G> {
@@ -17,12 +11,17 @@ pub struct Ended<A, G> {
 /// Where a seat is between two steps.
 pub enum Stage<A, G> {
     Idle,
-    /// It has this ticket.
-    Waiting(u64),
-    /// It has this ticket and the object, which stands for this list, and has committed so many times.
-    Holding(u64, LinkedList<Entry<A, G>>, u64),
-    /// It has drawn this number for a new seat.
-    Drawn(u64),
+    /// It has a ticket.
+    Waiting { ticket: u64 },
+    /// Its ticket is served, and it has the object. The object had this history when the seat took it, and the seat's
+    /// commits since then are its last entries.
+    Holding {
+        ticket: u64,
+        history: LinkedList<Entry<A, G>>,
+        commits: u64,
+    },
+    /// It has drawn a number for a new seat.
+    Drawn { number: u64 },
 }
 
 /// What a seat at the table knows.

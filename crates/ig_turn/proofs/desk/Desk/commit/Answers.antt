@@ -1,5 +1,5 @@
 use Rattle.std.proofs.Common.{rules}
-use Rattle.ig_turn.proofs.Calls.{commits_call}
+use Rattle.ig_turn.proofs.CallLemmas.{commits_call}
 use Rattle.ig_turn.proofs.desk.Desk.commit.Goals as goal
 
 pub fetch_add-requires : goal.fetch_add-requires

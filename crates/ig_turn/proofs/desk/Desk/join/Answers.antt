@@ -1,6 +1,6 @@
 use Rattle.std.proofs.Common.{rules, ap, ◌∙◌}
-use Rattle.ig_turn.proofs.Seats.{joins_seat, settles_it}
-use Rattle.ig_turn.proofs.Wholes.{keeps_both}
+use Rattle.ig_turn.proofs.SeatLemmas.{joins_seat, settles_it}
+use Rattle.ig_turn.proofs.WholeLemmas.{keeps_both}
 use Rattle.ig_turn.proofs.desk.Desk.join.Goals as goal
 
 pub join_seat-requires : goal.join_seat-requires

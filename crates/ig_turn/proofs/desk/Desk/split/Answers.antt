@@ -1,6 +1,6 @@
 use Rattle.std.proofs.Common.{rules, ap, ◌∙◌}
-use Rattle.ig_turn.proofs.Seats.{splits_seat}
-use Rattle.ig_turn.proofs.Wholes.{rest_split}
+use Rattle.ig_turn.proofs.SeatLemmas.{splits_seat}
+use Rattle.ig_turn.proofs.WholeLemmas.{rest_split}
 use Rattle.ig_turn.proofs.desk.Desk.split.Goals as goal
 
 pub split_seat-fresh-requires : goal.split_seat-fresh-requires

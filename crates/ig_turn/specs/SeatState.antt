@@ -1,7 +1,7 @@
 -- What contracts see of a turn and of a seat.
 use Rattle.std.specs.Prelude.{ℕ, List}
 use Rattle.atomic_table.specs.Seated.{TableId}
-use Rattle.ig_turn.specs.declared.view.Entry.{Entry}
+use Rattle.ig_base.specs.declared.entry.Entry.{Entry}
 use Rattle.ig_turn.specs.declared.view.Ended.{Ended}
 
 -- which table it is, and what the object was when its history began

@@ -1,17 +1,18 @@
 -- The rule of a turn's table, which each atomic step keeps.
 -- The words are the next ticket, the ticket that is served, the number of entries in the history, and the next number of a seat.
 -- The one slot holds the object.
-use Rattle.std.specs.Prelude.{◌≡◌, ◌≢◌, ◌⊎◌, ℕ, ◌+◌, ◌<◌, ◌≤◌, ◌^◌, true, cond, List, [], ◌∷◌, ◌++◌, map, length}
+use Rattle.std.specs.Prelude.{◌≡◌, ◌≢◌, ℕ, ◌+◌, ◌<◌, ◌≤◌, ◌^◌, true, cond, List, [], ◌∷◌, ◌++◌, map, length, nat_eq}
+use Rattle.std.specs.List.{AllByRecursion, Contains, IsDistinct}
 use mathlib.Core.Option.{Option, some, none}
 use mathlib.Core.List.{IsPrefix}
 use lib.ListN.{get_elem?}
 use Rattle.atomic_table.specs.Table.{State}
-use Rattle.ig_turn.specs.declared.view.Entry.{Entry}
+use Rattle.ig_base.specs.declared.entry.Entry.{Entry}
 use Rattle.ig_turn.specs.declared.view.Ended.{Ended}
 use Rattle.ig_turn.specs.declared.view.Stage.{Stage}
 use Rattle.ig_turn.specs.declared.view.Stage.TheVariants.{Idle, Waiting, Holding, Drawn}
 use Rattle.ig_turn.specs.declared.view.View.{View}
-use Rattle.ig_turn.specs.History.{pairs_of, under, ended}
+use Rattle.ig_turn.specs.History.{pairs_of, entries_of, ended}
 
 -- where the object is: in its slot, or out with the seat that is served, which has committed so many times in this turn
 pub data Phase (O : Type 0) : Type 0 where
@@ -29,21 +30,6 @@ pub record Board (O A G : Type 0) : Type 0 where
   pub whose : ℕ → ℕ
   pub owner : ℕ → ℕ
   pub parent : ℕ → ℕ
-
--- n is one of them
-abbrev pub Has : List ℕ → ℕ → Type 0
-Has [] n = ⊥
-Has (m ∷ ms) n = (m ≡ n) ⊎ Has ms n
-
--- no two of them are equal
-abbrev pub Apart : List ℕ → Type 0
-Apart [] = Unit {0}
-Apart (m ∷ ms) = (Has ms m → ⊥) × Apart ms
-
--- P holds of each
-abbrev pub Each : {T : Type 0} → (T → Type 0) → List T → Type 0
-Each P [] = Unit {0}
-Each P (x ∷ xs) = P x × Each P xs
 
 abbrev pub homes_of : {O : Type 0} → Phase O → List (Option O)
 homes_of (home o) = some o ∷ []
@@ -69,12 +55,12 @@ module _ {A G : Type 0} where
 
   -- what the view j has to do with numbers
   pub record Numbers (seats : ℕ) (owner parent : ℕ → ℕ) (log : List (Entry A G)) (j : ℕ) (drawn : List ℕ) (parts : List (Ended A G)) (born : List ℕ) : Type 0 where
-    pub each : Each (λ e. (owner e.number ≡ j) × (e.number < seats) × (under e.number log ≡ e.own)) parts
-    pub different : Apart (map number_of parts)
-    pub has : (n : ℕ) → n < seats → owner n ≡ j → Has (map number_of parts) n
-    pub kin : (n : ℕ) → 0 < n → n < seats → owner (parent n) ≡ j → Has born n
-    pub below : Each (λ n. n < seats) born
-    pub childless : Each (λ d. (owner d ≡ j) × ((n : ℕ) → 0 < n → n < seats → parent n ≢ d)) drawn
+    pub each : AllByRecursion (λ e. (owner e.number ≡ j) × (e.number < seats) × (entries_of e.number log ≡ e.own)) parts
+    pub different : IsDistinct nat_eq (map number_of parts)
+    pub has : (n : ℕ) → n < seats → owner n ≡ j → Contains (map number_of parts) n
+    pub kin : (n : ℕ) → 0 < n → n < seats → owner (parent n) ≡ j → Contains born n
+    pub below : AllByRecursion (λ n. n < seats) born
+    pub childless : AllByRecursion (λ d. (owner d ≡ j) × ((n : ℕ) → 0 < n → n < seats → parent n ≢ d)) drawn
 
 module _ {X A G : Type 0} where
   -- a view's numbers, each with the entries under it: one that was drawn, its own, and those that were joined
@@ -125,7 +111,7 @@ module _ {O X A G : Type 0} where
       pub in_turn : board.serving ≤ board.ticket
       pub tickets_left : board.ticket ≤ 2 ^ 62
       pub numbers_left : (0 < board.seats) × (board.seats ≤ 2 ^ 62)
-      pub fresh : (n : ℕ) → board.seats ≤ n → under n board.log ≡ []
+      pub fresh : (n : ℕ) → board.seats ≤ n → entries_of n board.log ≡ []
       pub older : (n : ℕ) → 0 < n → n < board.seats → board.parent n < n
       pub each_view : (j : ℕ) (v : View X A G) → get_elem? s.views j ≡ some v → Knows start board j v
       pub holders : (t : ℕ) → board.serving ≤ t → t < board.ticket → board.whose t < length s.views
