@@ -1,5 +1,5 @@
 -- What one view knows, after a step of another or of its own.
-use Rattle.std.proofs.Common.{◌≡◌, ◌≢◌, ℕ, ◌+◌, ◌<◌, ◌≤◌, eqb, Bool, cond, List, [], ◌∷◌, ◌++◌, map, set, refl, sym, ap, ◌∙◌, subst, inl, inr, ⊎_elim, arith, eq-eqb, ne_eqb}
+use Rattle.std.proofs.Common.{◌≡◌, ◌≢◌, ℕ, ◌+◌, ◌<◌, ◌≤◌, eqb, Bool, cond, List, [], ◌∷◌, ◌++◌, map, set, refl, sym, ap, ◌∙◌, subst, ⊎_elim, arith, eq-eqb, ne_eqb}
 use mathlib.Core.Option.{some}
 use mathlib.Core.List.{map-append}
 use mathlib.Core.Logic.{dite}
@@ -9,7 +9,7 @@ use Rattle.atomic_table.proofs.Lists.{at_set}
 use Rattle.ig_base.specs.declared.entry.Entry.{Entry}
 use Rattle.ig_turn.specs.declared.view.Ended.{Ended}
 use Rattle.ig_turn.specs.declared.view.Stage.{Stage}
-use Rattle.ig_turn.specs.declared.view.Stage.TheVariants.{Idle, Waiting, Holding, Drawn}
+use Rattle.ig_turn.specs.declared.view.Stage.TheVariants.{Idle, Waiting, Holding}
 use Rattle.ig_turn.specs.History.{entries_of, entry, ended}
 use Rattle.std.specs.Prelude.{nat_eq}
 use Rattle.std.specs.List.{AllByRecursion, Contains, IsDistinct}
@@ -54,7 +54,6 @@ module _ {O A G : Type 0} where
     stage_drawn j Idle f = tt
     stage_drawn j (Waiting t) f = (f.0, omega (arith, f.1), put_else b.whose b.ticket id t (λ e. omega (arith, f.1)) ∙ f.2)
     stage_drawn j (Holding t l c) f = (f.0, omega (arith, f.1), put_else b.whose b.ticket id t (λ e. omega (arith, f.1)) ∙ f.2, f.3, f.4)
-    stage_drawn j (Drawn n) f = tt
 
     holder_drawn : (j : ℕ) (p : Phase O) (st : Stage A G) → ((c : ℕ) → p ≡ out c → b.serving < b.ticket) → HolderFits b j p st → HolderFits (with_ticket b new id) j p st
     holder_drawn j (home o) st lt f = tt
@@ -99,7 +98,6 @@ module _ {O A G : Type 0} where
     stage_taken o at j Idle ne f = tt
     stage_taken o at j (Waiting t) ne f = f
     stage_taken o at j (Holding t l c) ne f = absurd (not_served j t ne f.0 f.2)
-    stage_taken o at j (Drawn n) ne f = tt
 
     pub tickets_taken : (o : O) → b.phase ≡ home o → (j : ℕ) (st : Stage A G) → j ≢ id → Tickets b j st → Tickets (with_phase b (out 0)) j st
     tickets_taken o at j st ne k = record { stage = stage_taken o at j st ne k.stage; turn = k.turn; holder = λ is. absurd (not_served j b.serving ne refl is) }
@@ -115,7 +113,6 @@ module _ {O A G : Type 0} where
     stage_logged count log j Idle ne f = tt
     stage_logged count log j (Waiting t) ne f = f
     stage_logged count log j (Holding t l c) ne f = absurd (not_served j t ne f.0 f.2)
-    stage_logged count log j (Drawn n) ne f = tt
 
     pub tickets_logged : (count : ℕ) (log : List (Entry A G)) (j : ℕ) (st : Stage A G) → j ≢ id → Tickets b j st → Tickets (with_entry b count log 1) j st
     tickets_logged count log j st ne k = record { stage = stage_logged count log j st ne k.stage; turn = k.turn; holder = λ is. absurd (not_served j b.serving ne refl is) }
@@ -131,7 +128,6 @@ module _ {O A G : Type 0} where
     stage_passed next o more j Idle ne f = tt
     stage_passed next o more j (Waiting t) ne f = (dite (ℕ_discrete t b.serving) (λ e. absurd (not_served j t ne e f.2)) (λ other. omega (arith, f.0)), f.1, f.2)
     stage_passed next o more j (Holding t l c) ne f = absurd (not_served j t ne f.0 f.2)
-    stage_passed next o more j (Drawn n) ne f = tt
 
     pub tickets_passed : (next : ℕ) (o : O) → next ≡ b.serving + 1 → (j : ℕ) (st : Stage A G) → j ≢ id → Tickets b j st → Tickets (with_next b next o) j st
     tickets_passed next o more j st ne k = record { stage = stage_passed next o more j st ne k.stage; turn = λ t low high is. k.turn t (omega arith) high is; holder = tt }

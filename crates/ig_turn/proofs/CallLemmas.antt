@@ -17,7 +17,7 @@ use Rattle.ig_turn.specs.declared.view.Stage.TheVariants.{Idle, Waiting, Holding
 use Rattle.ig_turn.specs.declared.view.View.{View}
 use Rattle.ig_turn.specs.History.{entries_of, entry, ended, pairs_of, numbers_of, IsWhole}
 use Rattle.std.specs.List.{AllByRecursion, Contains}
-use Rattle.ig_turn.specs.Ordered.{Phase, home, out, Board, number_of, drawn_of, parts_of, homes_of, commits_of, HolderFits, Tickets, Numbers, Knows, ObjectFits, Ordered}
+use Rattle.ig_turn.specs.Ordered.{Phase, home, out, Board, number_of, parts_of, homes_of, commits_of, HolderFits, Tickets, Numbers, Knows, ObjectFits, Ordered}
 use Rattle.ig_turn.specs.Steps.{with_stage, held_ticket, held_list, committed_view, IsWholeView, DrawsTicket, TakesObject, Commits, Passes}
 use Rattle.ig_turn.proofs.ListLemmas.{prefix_refl, prefix_more, prefix_inside, each_weaker, each_has, each_in, all_from_each, each_from_all, entries_of_some, entries_of-other}
 use Rattle.ig_turn.proofs.BoardLemmas.{put, put_here, put_else, views_set, waiting_or_holding, with_ticket, with_phase, with_entry, with_next, tickets_drawn, tickets_mine, tickets_taken, tickets_taking, tickets_logged, tickets_logging, tickets_passed, tickets_passing, numbers_logged, numbers_logging}
@@ -83,17 +83,17 @@ module _ {O X A G : Type 0} (stands : O → X → List (A × G) → Type 0) (sta
   pub at_stage : (v : V) (st : Stage A G) → v.stage ≡ st → v ≡ with_stage v st
   at_stage v st e = ap (λ (z : Stage A G). with_stage v z) e
 
-  -- the numbers of a live view that has drawn none
-  pub numbers_at : (b : Board O A G) (j : ℕ) (v : V) (st : Stage A G) → v.stage ≡ st → v.live ≡ true → K b j v
-      → Numbers b.seats b.owner b.parent b.log j (drawn_of st) (map (λ n. ended n []) (drawn_of st) ++ (ended v.number v.own ∷ v.ended)) v.born
-  numbers_at b j v st e alive k = subst (λ (z : Stage A G × Bool). Numbers b.seats b.owner b.parent b.log j (drawn_of z.0) (map (λ n. ended n []) (drawn_of z.0) ++ cond z.1 (ended v.number v.own ∷ v.ended) []) v.born)
+  -- the numbers of a live view
+  pub numbers_at : (b : Board O A G) (j : ℕ) (v : V) (ds : List ℕ) → v.drawn ≡ ds → v.live ≡ true → K b j v
+      → Numbers b.seats b.owner b.parent b.log j ds (map (λ n. ended n []) ds ++ (ended v.number v.own ∷ v.ended)) v.born
+  numbers_at b j v ds e alive k = subst (λ (z : List ℕ × Bool). Numbers b.seats b.owner b.parent b.log j z.0 (map (λ n. ended n []) z.0 ++ cond z.1 (ended v.number v.own ∷ v.ended) []) v.born)
       (λ i. (e i, alive i)) k.numbers
 
-  pub numbers_back : (b : Board O A G) (j : ℕ) (w : V) → w.live ≡ true
-      → Numbers b.seats b.owner b.parent b.log j (drawn_of w.stage) (map (λ n. ended n []) (drawn_of w.stage) ++ (ended w.number w.own ∷ w.ended)) w.born
-      → Numbers b.seats b.owner b.parent b.log j (drawn_of w.stage) (parts_of w) w.born
-  numbers_back b j w alive n = subst (λ (z : Bool). Numbers b.seats b.owner b.parent b.log j (drawn_of w.stage) (map (λ n. ended n []) (drawn_of w.stage) ++ cond z (ended w.number w.own ∷ w.ended) []) w.born)
-      (sym alive) n
+  pub numbers_back : (b : Board O A G) (j : ℕ) (w : V) (ds : List ℕ) → w.drawn ≡ ds → w.live ≡ true
+      → Numbers b.seats b.owner b.parent b.log j ds (map (λ n. ended n []) ds ++ (ended w.number w.own ∷ w.ended)) w.born
+      → Numbers b.seats b.owner b.parent b.log j w.drawn (parts_of w) w.born
+  numbers_back b j w ds e alive n = subst (λ (z : List ℕ × Bool). Numbers b.seats b.owner b.parent b.log j z.0 (map (λ n. ended n []) z.0 ++ cond z.1 (ended w.number w.own ∷ w.ended) []) w.born)
+      (λ i. (sym e i, sym alive i)) n
 
   pub served : (b : Board O A G) (p : Phase O) → ObjectFits stands start b p → (c : ℕ) → p ≡ out c → b.serving < b.ticket
   served b (home o) f c e = cc
@@ -271,12 +271,12 @@ module _ {O X A G : Type 0} (stands : O → X → List (A × G) → Type 0) (sta
     fresh_logged : (ask : A) (got : G) → Numbers bc.seats bc.owner bc.parent bc.log id [] (ended v.number v.own ∷ v.ended) v.born → (n : ℕ) → bc.seats ≤ n → entries_of n (longer_log ask got) ≡ []
     fresh_logged ask got k n high = let f = k.each.0 in entries_of-other n bc.log v.number ask got (λ e. omega (arith, f.1)) ∙ r.fresh n high
 
-    call_committed : (cs : List (ℕ × O)) (t : ℕ) (ask : A) (got : G) → v.stage ≡ Holding t bc.log 0 → v.live ≡ true → bc.phase ≡ out 0
+    call_committed : (cs : List (ℕ × O)) (t : ℕ) (ask : A) (got : G) → v.stage ≡ Holding t bc.log 0 → v.drawn ≡ [] → v.live ≡ true → bc.phase ≡ out 0
         → Rule (stepped s 2 (bc.count + 1) id cs (committed_view v t bc.log ask got) keeps) × IsWholeView (committed_view v t bc.log ask got)
-    call_committed cs t ask got holds alive there = let log' : List (Entry A G) = longer_log ask got in let w : V = committed_view v t bc.log ask got in
+    call_committed cs t ask got holds undrawn alive there = let log' : List (Entry A G) = longer_log ask got in let w : V = committed_view v t bc.log ask got in
         let before = r.each_view id v at in let k : K bc id (with_stage v (Holding t bc.log 0)) = subst (K bc id) (at_stage v (Holding t bc.log 0) holds) before in
         let f = k.tickets.stage in let b' : Board O A G = with_entry bc (bc.count + 1) log' 1 in let mine : bc.whose bc.serving ≡ id = ap bc.whose (sym f.0) ∙ f.2 in
-        let n = numbers_at bc id v (Holding t bc.log 0) holds alive before in
+        let n = numbers_at bc id v [] undrawn alive before in
         let n' = numbers_logging bc.seats bc.owner bc.parent bc.log id v.number v.own v.ended v.born ask got n in
         let few : bc.count ≤ bc.serving = omega (arith, r.few, ap commits_of there) in
         let long : length log' ≡ bc.count + 1 = omega (arith, length-append bc.log (entry v.number ask got ∷ []), r.counted) in
@@ -298,14 +298,14 @@ module _ {O X A G : Type 0} (stands : O → X → List (A × G) → Type 0) (sta
                   seen = prefix_refl log';
                   met = prefix_more v.met bc.log (entry v.number ask got ∷ []) k.met;
                   tickets = tickets_logging bc id mine (bc.count + 1) log' t 0 bc.log k.tickets;
-                  numbers = numbers_back b' id w alive n';
+                  numbers = numbers_back b' id w [] undrawn alive n';
                   starts = k.starts;
                 }
                 (λ j u ne here. let h = r.each_view j u here in record {
                   seen = prefix_more u.seen bc.log (entry v.number ask got ∷ []) h.seen;
                   met = prefix_more u.met bc.log (entry v.number ask got ∷ []) h.met;
                   tickets = tickets_logged bc id mine (bc.count + 1) log' j u.stage ne h.tickets;
-                  numbers = numbers_logged bc.seats bc.owner bc.parent bc.log j (drawn_of u.stage) (parts_of u) u.born v.number ask got (λ e. ne (sym e ∙ owned)) h.numbers;
+                  numbers = numbers_logged bc.seats bc.owner bc.parent bc.log j u.drawn (parts_of u) u.born v.number ask got (λ e. ne (sym e ∙ owned)) h.numbers;
                   starts = h.starts;
                 });
             holders = λ u low high. still_there s id w (bc.whose u) (r.holders u low high);
@@ -316,12 +316,12 @@ module _ {O X A G : Type 0} (stands : O → X → List (A × G) → Type 0) (sta
           omega (arith, r.tickets_left, few, long, r.counted, f.0, f.1)),
         )
 
-  pub commits_call : (slots id : ℕ) (me : M) (t : ℕ) (l : List (Entry A G)) (ask : A) (got : G) (calls : List (A × G)) → me.0.stage ≡ Holding t l 0 → me.0.live ≡ true → calls ≡ (ask, got) ∷ []
+  pub commits_call : (slots id : ℕ) (me : M) (t : ℕ) (l : List (Entry A G)) (ask : A) (got : G) (calls : List (A × G)) → me.0.stage ≡ Holding t l 0 → me.0.drawn ≡ [] → me.0.live ≡ true → calls ≡ (ask, got) ∷ []
       → Allows Rule slots id me 2 (λ x. (x + 1) % 2 ^ 64) (Commits calls (step slots 2 1 0 none) me)
-  commits_call slots id me t l ask got calls holds alive one s r _ at _ = let b = r.board in let v : V = me.0 in let x : ℕ = get_or s.words 2 0 in let is : x ≡ b.count = ap (λ (ws : List ℕ). get_or ws 2 0) r.words in
+  commits_call slots id me t l ask got calls holds undrawn alive one s r _ at _ = let b = r.board in let v : V = me.0 in let x : ℕ = get_or s.words 2 0 in let is : x ≡ b.count = ap (λ (ws : List ℕ). get_or ws 2 0) r.words in
       let k : K b id (with_stage v (Holding t l 0)) = subst (K b id) (at_stage v (Holding t l 0) holds) (r.each_view id v at) in let f = k.tickets.stage in
       let same : l ≡ b.log = f.4 in let here : v.stage ≡ Holding t b.log 0 = holds ∙ ap (λ (z : List (Entry A G)). Holding t z 0) same in
-      let made = call_committed s r id v at me.1 t ask got here alive f.3 in
+      let made = call_committed s r id v at me.1 t ask got here undrawn alive f.3 in
       let next : (x + 1) % 2 ^ 64 ≡ b.count + 1 = omega (arith, short_log s r, r.counted) in (
         committed_view v t b.log ask got,
         keeps,

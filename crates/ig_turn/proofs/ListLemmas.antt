@@ -4,8 +4,6 @@ use Rattle.std.specs.List.{All, Contains, IsDistinct, AllByRecursion}
 use Rattle.std.specs.Prelude.{nat_eq}
 use Rattle.std.proofs.lemmas.List.Elements.{filter-append, All-cons, All-nil, All-contains, All-contains_itself, Contains-append_left, Contains-append_cases}
 use mathlib.Core.List.{IsPrefix, append-nil}
-use mathlib.Core.Logic.{dite}
-use native.Mathlib.Decide.{ℕ_discrete}
 use Rattle.ig_base.specs.declared.entry.Entry.{Entry}
 use Rattle.ig_turn.specs.History.{entries_of, entry}
 

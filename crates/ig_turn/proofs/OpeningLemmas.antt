@@ -1,5 +1,5 @@
 -- The table at the start meets the rule.
-use Rattle.std.proofs.Common.{◌≡◌, ◌^◌, ℕ, suc, zero, List, [], ◌∷◌, refl, sym, subst, arith, inl}
+use Rattle.std.proofs.Common.{◌≡◌, ℕ, suc, zero, List, [], ◌∷◌, refl, sym, subst, arith}
 use mathlib.Core.Option.{some, some-injective, some-ne-none}
 use lib.ListN.{get_elem?}
 use Rattle.atomic_table.specs.Table.{opening}
@@ -73,6 +73,7 @@ whole_opened = record {
 pub rest_opened : {X A G : Type 0} (runs : X → List (A × G) → Type 0) (x : X) → runs x [] → IsAtRest runs (opening_view x)
 rest_opened runs x legal = record {
   idle = refl;
+  none_drawn = refl;
   live = refl;
   met_none = refl;
   legal = legal;

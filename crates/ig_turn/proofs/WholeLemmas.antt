@@ -1,18 +1,17 @@
 -- What holds of a whole seat, after a split, a join or a note.
-use Rattle.std.proofs.Common.{◌≡◌, ◌≢◌, ◌<◌, ◌≤◌, ◌^◌, ℕ, List, [], ◌∷◌, ◌++◌, map, length, refl, inl, inr, ⊎_elim, arith, ap, sym, ◌∙◌, subst, length-append}
+use Rattle.std.proofs.Common.{◌≡◌, ◌≢◌, ◌<◌, ℕ, List, [], ◌∷◌, ◌++◌, map, length, refl, inl, inr, ⊎_elim, arith, ap, sym, ◌∙◌, subst, length-append}
 use Rattle.atomic_table.specs.Table.{Me}
-use Rattle.std.specs.Prelude.{nat_eq, Result, Ok, Err, IfOk}
-use Rattle.std.specs.List.{All, AllByRecursion, Contains, IsDistinct}
+use Rattle.std.specs.Prelude.{Result, Ok, Err, IfOk}
+use Rattle.std.specs.List.{All, AllByRecursion, Contains}
 use mathlib.Core.List.{map-append, append-nil}
 use Rattle.std.proofs.lemmas.List.Elements.{All-nil, All-contains, Contains-append_left, Contains-append_right}
 use Rattle.ig_base.specs.declared.entry.Entry.{Entry}
 use Rattle.ig_turn.specs.declared.view.Ended.{Ended}
 use Rattle.ig_turn.specs.declared.view.View.{View}
 use Rattle.ig_turn.specs.History.{entries_of, entry, ended, numbers_of, HasEachNumber, IsWhole}
-use Rattle.ig_turn.specs.declared.view.Stage.TheVariants.{Idle, Drawn}
 use Rattle.ig_turn.specs.Ordered.{number_of}
-use Rattle.ig_turn.specs.Steps.{with_stage, right_of_split, merged_view, informed_view, settled_view, IsAtRest, IsWholeView, KeepsParts, AddsView}
-use Rattle.ig_turn.proofs.ListLemmas.{each_append, each_weaker, each_from_all, all_from_each, each_has, contains_none, contains_first, contains_later, contains_cases, distinct_one, distinct_first, entries_of-append, entries_of-other, entries_of-same, entries_of_some}
+use Rattle.ig_turn.specs.Steps.{with_drawn, right_of_split, merged_view, informed_view, settled_view, IsAtRest, IsWholeView, KeepsParts, AddsView}
+use Rattle.ig_turn.proofs.ListLemmas.{each_append, each_weaker, each_from_all, all_from_each, each_has, contains_none, contains_first, contains_cases, distinct_one, distinct_first, entries_of-append, entries_of-other, entries_of-same, entries_of_some}
 
 module _ {X A G : Type 0} where
   keeps_glued : (v w : View X A G) → IsWholeView v → IsWholeView w → KeepsParts (merged_view v w)
@@ -61,11 +60,12 @@ module _ {A G : Type 0} where
 
 module _ {X A G : Type 0} (runs : X → List (A × G) → Type 0) where
   -- two seats at rest, after one was split off the other
-  pub rest_split : (v left right : View X A G) (n : ℕ) → left ≡ record v { stage = Idle; born = v.born ++ n ∷ [] } → right ≡ right_of_split (with_stage v (Drawn n)) → v.number < n → entries_of n v.seen ≡ []
+  pub rest_split : (v left right : View X A G) (n : ℕ) → left ≡ record v { drawn = []; born = v.born ++ n ∷ [] } → right ≡ right_of_split (with_drawn v (n ∷ [])) → v.number < n → entries_of n v.seen ≡ []
       → IsAtRest runs v → IsAtRest runs left × IsAtRest runs right
   rest_split v left right n e f above unused r = let w = r.whole in (
     subst (IsAtRest runs) (sym e) record {
-      idle = refl;
+      idle = r.idle;
+      none_drawn = refl;
       live = r.live;
       met_none = r.met_none;
       legal = r.legal;
@@ -73,6 +73,7 @@ module _ {X A G : Type 0} (runs : X → List (A × G) → Type 0) where
     },
     subst (IsAtRest runs) (sym f) record {
       idle = refl;
+      none_drawn = refl;
       live = refl;
       met_none = refl;
       legal = r.legal;

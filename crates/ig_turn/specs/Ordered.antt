@@ -10,7 +10,7 @@ use Rattle.atomic_table.specs.Table.{State}
 use Rattle.ig_base.specs.declared.entry.Entry.{Entry}
 use Rattle.ig_turn.specs.declared.view.Ended.{Ended}
 use Rattle.ig_turn.specs.declared.view.Stage.{Stage}
-use Rattle.ig_turn.specs.declared.view.Stage.TheVariants.{Idle, Waiting, Holding, Drawn}
+use Rattle.ig_turn.specs.declared.view.Stage.TheVariants.{Idle, Waiting, Holding}
 use Rattle.ig_turn.specs.declared.view.View.{View}
 use Rattle.ig_turn.specs.History.{pairs_of, entries_of, ended}
 
@@ -40,11 +40,6 @@ commits_of (home o) = 0
 commits_of (out c) = c
 
 module _ {A G : Type 0} where
-  -- the number that was drawn for a new seat, if one was
-  abbrev pub drawn_of : Stage A G → List ℕ
-  drawn_of (Drawn n) = n ∷ []
-  drawn_of _ = []
-
   abbrev pub number_of : Ended A G → ℕ
   number_of e = e.number
 
@@ -65,7 +60,7 @@ module _ {A G : Type 0} where
 module _ {X A G : Type 0} where
   -- a view's numbers, each with the entries under it: one that was drawn, its own, and those that were joined
   abbrev pub parts_of : View X A G → List (Ended A G)
-  parts_of v = map (λ n. ended n []) (drawn_of v.stage) ++ cond v.live (ended v.number v.own ∷ v.ended) []
+  parts_of v = map (λ n. ended n []) v.drawn ++ cond v.live (ended v.number v.own ∷ v.ended) []
 
 module _ {O A G : Type 0} where
   abbrev pub words_of : Board O A G → List ℕ
@@ -75,7 +70,6 @@ module _ {O A G : Type 0} where
   StageFits b j Idle = Unit {0}
   StageFits b j (Waiting t) = (b.serving ≤ t) × (t < b.ticket) × (b.whose t ≡ j)
   StageFits b j (Holding t l c) = (t ≡ b.serving) × (t < b.ticket) × (b.whose t ≡ j) × (b.phase ≡ out c) × (l ≡ b.log)
-  StageFits b j (Drawn n) = Unit {0}
 
   -- the one that is served has the object where it is out
   abbrev pub HolderFits : Board O A G → ℕ → Phase O → Stage A G → Type 0
@@ -93,7 +87,7 @@ module _ {O X A G : Type 0} where
     pub seen : IsPrefix v.seen b.log
     pub met : IsPrefix v.met b.log
     pub tickets : Tickets b j v.stage
-    pub numbers : Numbers b.seats b.owner b.parent b.log j (drawn_of v.stage) (parts_of v) v.born
+    pub numbers : Numbers b.seats b.owner b.parent b.log j v.drawn (parts_of v) v.born
     pub starts : v.live ≡ true → v.start ≡ start
 
   module _ (stands : O → X → List (A × G) → Type 0) where

@@ -1,19 +1,15 @@
 -- What each step on the table tells the seat that makes it.
-use Rattle.std.specs.Prelude.{◌≡◌, ◌≢◌, ◌⊎◌, ℕ, ◌<◌, ◌≤◌, ◌^◌, true, false, cond, nat_lt, List, [], ◌∷◌, ◌++◌, length}
+use Rattle.std.specs.Prelude.{◌≡◌, ◌≢◌, ◌⊎◌, ℕ, ◌<◌, ◌≤◌, ◌^◌, true, false, cond, nat_lt, List, [], ◌∷◌, ◌++◌, length, slice_index}
 use Rattle.std.specs.List.{AllByRecursion}
 use mathlib.Core.List.{IsPrefix}
 use Rattle.atomic_table.specs.Table.{Me, Step}
 use Rattle.ig_base.specs.declared.entry.Entry.{Entry}
 use Rattle.ig_turn.specs.declared.view.Stage.{Stage}
-use Rattle.ig_turn.specs.declared.view.Stage.TheVariants.{Idle, Waiting, Holding, Drawn}
+use Rattle.ig_turn.specs.declared.view.Stage.TheVariants.{Idle, Waiting, Holding}
 use Rattle.ig_turn.specs.declared.view.View.{View}
 use Rattle.ig_turn.specs.History.{pairs_of, entries_of, ended, entry, IsWhole, IsLonger}
 
 module _ {A G : Type 0} where
-  abbrev pub drawn_number : Stage A G → ℕ
-  drawn_number (Drawn n) = n
-  drawn_number _ = 0
-
   -- the ticket and the list of a seat that holds the object
   abbrev pub held_ticket : Stage A G → ℕ
   held_ticket (Holding t l c) = t
@@ -35,25 +31,29 @@ module _ {X A G : Type 0} where
   abbrev pub with_stage : View X A G → Stage A G → View X A G
   with_stage v st = record v { stage = st }
 
+  -- the view with other numbers drawn
+  abbrev pub with_drawn : View X A G → List ℕ → View X A G
+  with_drawn v ns = record v { drawn = ns }
+
   abbrev pub IsLegalView : (X → List (A × G) → Type 0) → View X A G → Type 0
   IsLegalView runs v = runs v.start (pairs_of v.seen)
 
   abbrev pub opening_view : X → View X A G
-  opening_view x = record { start = x; stage = Idle; live = true; number = 0; seen = []; met = []; own = []; ended = []; born = [] }
+  opening_view x = record { start = x; stage = Idle; drawn = []; live = true; number = 0; seen = []; met = []; own = []; ended = []; born = [] }
 
   -- a view that has no number: of a seat that was joined, or of a note from one seat to another
   abbrev pub numberless_view : X → List (Entry A G) → View X A G
-  numberless_view x seen = record { start = x; stage = Idle; live = false; number = 0; seen = seen; met = []; own = []; ended = []; born = [] }
+  numberless_view x seen = record { start = x; stage = Idle; drawn = []; live = false; number = 0; seen = seen; met = []; own = []; ended = []; born = [] }
 
   abbrev pub IsWholeView : View X A G → Type 0
   IsWholeView v = IsWhole v.number v.seen v.own v.ended v.born × (length v.seen ≤ 2 ^ 62)
 
   -- the view of the new seat, and what is left to the old one
   abbrev pub right_of_split : View X A G → View X A G
-  right_of_split v = record { start = v.start; stage = Idle; live = true; number = drawn_number v.stage; seen = v.seen; met = []; own = []; ended = []; born = [] }
+  right_of_split v = record { start = v.start; stage = Idle; drawn = []; live = true; number = slice_index v.drawn 0; seen = v.seen; met = []; own = []; ended = []; born = [] }
 
   abbrev pub left_of_split : View X A G → View X A G
-  left_of_split v = with_stage v Idle
+  left_of_split v = with_drawn v []
 
   -- a note of what the seat has seen
   abbrev pub note_of : View X A G → View X A G
@@ -82,9 +82,10 @@ module _ {X A G : Type 0} where
   abbrev pub AddsView : View X A G → View X A G → A → G → Type 0
   AddsView v w ask got = (between : List (Entry A G)) × (w ≡ record v { seen = (v.seen ++ between) ++ entry v.number ask got ∷ []; own = v.own ++ entry v.number ask got ∷ [] })
 
-  -- What a seat knows between two calls. It holds nothing, and waits for nothing
+  -- What a seat knows between two calls: it waits for nothing, holds nothing and has drawn no number
   pub record IsAtRest (runs : X → List (A × G) → Type 0) (v : View X A G) : Type 0 where
     pub idle : v.stage ≡ Idle
+    pub none_drawn : v.drawn ≡ []
     pub live : v.live ≡ true
     pub met_none : v.met ≡ []
     pub legal : IsLegalView runs v
@@ -117,7 +118,7 @@ module _ {X A G : Type 0} where
     -- a number was drawn where the word was as expected
     abbrev pub DrawsNumber : Step O → Me O (View X A G) → ℕ → Me O (View X A G) → Type 0
     DrawsNumber s me found me' =
-        (found ≡ s.first → (me' ≡ (record me.0 { stage = Drawn found; born = me.0.born ++ found ∷ [] }, me.1)) × (me.0.number < found) × AllByRecursion (λ n. n < found) me.0.born
+        (found ≡ s.first → (me' ≡ (record me.0 { drawn = found ∷ []; born = me.0.born ++ found ∷ [] }, me.1)) × (me.0.number < found) × AllByRecursion (λ n. n < found) me.0.born
         × (entries_of found me.0.seen ≡ []))
         × (found ≢ s.first → me' ≡ me)
 

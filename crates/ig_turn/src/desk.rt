@@ -2,10 +2,10 @@
 ghost use Rattle.std.specs.Prelude.{◌≡◌, ◌≢◌, ◌<◌, ◌≤◌, ℕ, true, length, List, [], ◌∷◌, ◌++◌, IfOk, IfErr, IfSome, IsOk, OnOk};
 ghost use mathlib.Core.List.{IsPrefix};
 ghost use Rattle.ig_base.specs.declared.entry.Entry.{Entry};
-ghost use Rattle.ig_turn.specs.declared.view.Stage.TheVariants.{Idle, Waiting, Holding, Drawn};
+ghost use Rattle.ig_turn.specs.declared.view.Stage.TheVariants.{Idle, Waiting, Holding};
 ghost use Rattle.ig_turn.specs.History.{pairs_of, entries_of, IsLonger};
 ghost use Rattle.std.specs.List.{AllByRecursion};
-ghost use Rattle.ig_turn.specs.Steps.{opening_view, right_of_split, settled_view, merged_view, informed_view, note_of, IsAtRest, with_stage, committed_view, held_ticket, held_list, IsHolding, IsWholeView, IsLegalView, Carries, AddsView};
+ghost use Rattle.ig_turn.specs.Steps.{opening_view, right_of_split, with_drawn, settled_view, merged_view, informed_view, note_of, IsAtRest, with_stage, committed_view, held_ticket, held_list, IsHolding, IsWholeView, IsLegalView, Carries, AddsView};
 
 use crate::backoff::Backoff;
 use crate::bell::Bell;
@@ -172,7 +172,7 @@ impl<O: Plain> Desk<O> {
         ask: O::Ask,
     ) -> Result<O::Got, NoRoom<O::Ask>>
         requires id { place.old.table_id ≡ self.now.table.shared.table_id }
-        requires idle { (place.old.me.0.stage ≡ Idle) × (place.old.me.0.live ≡ true) × (place.old.me.1 ≡ []) }
+        requires idle { (place.old.me.0.stage ≡ Idle) × (place.old.me.0.drawn ≡ []) × (place.old.me.0.live ≡ true) × (place.old.me.1 ≡ []) }
         requires fits { O.fits ask }
         ensures id { (place.new.table_id ≡ place.old.table_id) × (place.new.id ≡ place.old.id) × (place.new.me.1 ≡ []) }
         ensures ok { IfOk result (λ got. AddsView place.old.me.0 place.new.me.0 (O.ask_data ask) (O.got_data got)) }
@@ -230,7 +230,7 @@ impl<O: Plain> Desk<O> {
     )
         requires id { place.old.table_id ≡ self.now.table.shared.table_id }
         requires made { M.calls ≡ (O.ask_data ask.value, O.got_data got.now) ∷ [] }
-        requires holds { IsHolding place.old.me.0.stage 0 × (place.old.me.0.live ≡ true) }
+        requires holds { IsHolding place.old.me.0.stage 0 × (place.old.me.0.drawn ≡ []) × (place.old.me.0.live ≡ true) }
         ensures id { (place.new.table_id ≡ place.old.table_id) × (place.new.id ≡ place.old.id) }
         ensures committed { place.new.me ≡ (committed_view place.old.me.0 (held_ticket place.old.me.0.stage) (held_list place.old.me.0.stage) (O.ask_data ask.value) (O.got_data got.now), place.old.me.1) }
         ensures whole { IsWholeView place.new.me.0 }
@@ -253,9 +253,9 @@ impl<O: Plain> Desk<O> {
     // Draws a number for a new seat. Where none is left it waits for ever.
     fn draw_number<R: Wait>(&self, rt: &R, place: &mut Place<O>) -> u64
         requires id { place.old.table_id ≡ self.now.table.shared.table_id }
-        requires idle { (place.old.me.0.stage ≡ Idle) × (place.old.me.0.live ≡ true) }
+        requires none_drawn { (place.old.me.0.drawn ≡ []) × (place.old.me.0.live ≡ true) }
         ensures id { (place.new.table_id ≡ place.old.table_id) × (place.new.id ≡ place.old.id) }
-        ensures drawn { place.new.me ≡ (record place.old.me.0 { stage = Drawn result; born = place.old.me.0.born ++ result ∷ [] }, place.old.me.1) }
+        ensures drawn { place.new.me ≡ (record place.old.me.0 { drawn = result ∷ []; born = place.old.me.0.born ++ result ∷ [] }, place.old.me.1) }
         ensures below { result < MOST }
         ensures above { (place.old.me.0.number < result) × AllByRecursion (λ n. n < result) place.old.me.0.born }
         ensures unused { entries_of result place.old.me.0.seen ≡ [] }
@@ -284,8 +284,8 @@ impl<O: Plain> Desk<O> {
         requires id { place.old.table_id ≡ self.now.table.shared.table_id }
         requires rest { IsAtRest O.runs place.old.me.0 }
         ensures id { (place.new.table_id ≡ place.old.table_id) × (place.new.id ≡ place.old.id) × (result.1.table_id ≡ place.old.table_id) }
-        ensures left { place.new.me ≡ (record place.old.me.0 { stage = Idle; born = place.old.me.0.born ++ result.0 ∷ [] }, place.old.me.1) }
-        ensures right { result.1.me ≡ (right_of_split (with_stage place.old.me.0 (Drawn result.0)), []) }
+        ensures left { place.new.me ≡ (record place.old.me.0 { drawn = []; born = place.old.me.0.born ++ result.0 ∷ [] }, place.old.me.1) }
+        ensures right { result.1.me ≡ (right_of_split (with_drawn place.old.me.0 (result.0 ∷ [])), []) }
         ensures below { result.0 < MOST }
         ensures above { (place.old.me.0.number < result.0) × AllByRecursion (λ n. n < result.0) place.old.me.0.born }
         ensures rest { IsAtRest O.runs place.new.me.0 × IsAtRest O.runs result.1.me.0 }

@@ -8,8 +8,9 @@ pub struct Ended<A, G> {
     pub own: LinkedList<Entry<A, G>>,
 }
 
-/// Where a seat is between two steps.
+/// Where a seat is in a call.
 pub enum Stage<A, G> {
+    /// In none.
     Idle,
     /// It has a ticket.
     Waiting { ticket: u64 },
@@ -20,8 +21,6 @@ pub enum Stage<A, G> {
         history: LinkedList<Entry<A, G>>,
         commits: u64,
     },
-    /// It has drawn a number for a new seat.
-    Drawn { number: u64 },
 }
 
 /// What a seat at the table knows.
@@ -29,6 +28,8 @@ pub struct View<X, A, G> {
     /// What the object was when its history began.
     pub start: X,
     pub stage: Stage<A, G>,
+    /// The number that it has drawn for a new seat and not yet given to one, if there is one.
+    pub drawn: LinkedList<u64>,
     /// False of a seat that was joined into another, and of a note from one seat to another.
     pub live: bool,
     pub number: u64,

@@ -1,4 +1,4 @@
-use Rattle.std.proofs.Common.{rules, sym, ap, ◌∙◌}
+use Rattle.std.proofs.Common.{sym, ap, ◌∙◌}
 use Rattle.ig_turn.proofs.WholeLemmas.{numbers_differ}
 use Rattle.ig_turn.proofs.turn.Turn.meet.Goals as goal
 
