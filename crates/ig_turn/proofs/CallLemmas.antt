@@ -311,9 +311,11 @@ module _ {O X A G : Type 0} (stands : O → X → List (A × G) → Type 0) (sta
             holders = λ u low high. still_there s id w (bc.whose u) (r.holders u low high);
             owners = λ m high. still_there s id w (bc.owner m) (r.owners m high);
           },
-          (whole_from bc.seats bc.owner bc.parent log' id v.number (v.own ++ entry v.number ask got ∷ []) v.ended v.born log'
-              fresh' r.older n' (prefix_inside log' log' (prefix_refl log')) (each_weaker _ _ (λ e h. h.2) (ended v.number (v.own ++ entry v.number ask got ∷ []) ∷ v.ended) n'.each),
-          omega (arith, r.tickets_left, few, long, r.counted, f.0, f.1)),
+          (
+            whole_from bc.seats bc.owner bc.parent log' id v.number (v.own ++ entry v.number ask got ∷ []) v.ended v.born log'
+                fresh' r.older n' (prefix_inside log' log' (prefix_refl log')) (each_weaker _ _ (λ e h. h.2) (ended v.number (v.own ++ entry v.number ask got ∷ []) ∷ v.ended) n'.each),
+            omega (arith, r.tickets_left, few, long, r.counted, f.0, f.1),
+          ),
         )
 
   pub commits_call : (slots id : ℕ) (me : M) (t : ℕ) (l : List (Entry A G)) (ask : A) (got : G) (calls : List (A × G)) → me.0.stage ≡ Holding t l 0 → me.0.drawn ≡ [] → me.0.live ≡ true → calls ≡ (ask, got) ∷ []

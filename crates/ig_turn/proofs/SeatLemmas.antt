@@ -381,8 +381,8 @@ module _ {O X A G : Type 0} (stands : O → X → List (A × G) → Type 0) (sta
           both.0,
           λ keeps_parts. (
             whole_from b.seats b.owner b.parent b.log id v.number v.own v.ended v.born new r.fresh r.older n (prefix_inside new b.log both.1)
-              (each_both _ _ _ (λ e f g. ⊎_elim (λ a. entries_of_between e.number v.seen new b.log e.own begins.0 both.1 a f.2) (λ a. entries_of_between e.number v.met new b.log e.own begins.1 both.1 a f.2) g)
-              (ended v.number v.own ∷ v.ended) n.each keeps_parts),
+                (each_both _ _ _ (λ e f g. ⊎_elim (λ a. entries_of_between e.number v.seen new b.log e.own begins.0 both.1 a f.2) (λ a. entries_of_between e.number v.met new b.log e.own begins.1 both.1 a f.2) g)
+                (ended v.number v.own ∷ v.ended) n.each keeps_parts),
             omega (arith, short_log stands start s r, prefix_length new b.log both.1),
           ),
         ),

@@ -1,4 +1,4 @@
--- The history of a turn, and what holds of the part of it that one seat has seen.
+-- The history of a turn, and what holds of the prefix of it that one seat has seen.
 use Rattle.std.specs.Prelude.{◌≡◌, ◌⊎◌, ◌==◌, ℕ, ◌≤◌, ◌^◌, List, [], ◌∷◌, ◌++◌, map, length, nat_eq}
 use Rattle.std.specs.List.{All, Contains, filter, IsDistinct}
 use mathlib.Core.List.{IsPrefix}
@@ -16,11 +16,11 @@ module _ {A G : Type 0} where
   abbrev pub pair_of : Entry A G → A × G
   pair_of e = (e.ask, e.got)
 
-  -- the asks with what they got, in order
+  -- the asks with what each got, in order
   abbrev pub pairs_of : List (Entry A G) → List (A × G)
   pairs_of es = map pair_of es
 
-  -- the entries under a number, in order
+  -- the entries that the seat with this number made, in order
   abbrev pub entries_of : ℕ → List (Entry A G) → List (Entry A G)
   entries_of n es = filter (λ e. e.seat == n) es
 
@@ -28,16 +28,16 @@ module _ {A G : Type 0} where
   abbrev pub numbers_of : ℕ → List (Ended A G) → List ℕ
   numbers_of number joined = number ∷ map (λ e. e.number) joined
 
-  -- zs is the longer of xs and ys, and the shorter begins it
+  -- zs is the longer of xs and ys, and the shorter is a prefix of it
   abbrev pub IsLonger : List (Entry A G) → List (Entry A G) → List (Entry A G) → Type 0
   IsLonger xs ys zs = ((zs ≡ xs) × IsPrefix ys xs) ⊎ ((zs ≡ ys) × IsPrefix xs ys)
 
-  -- the first seat, and each that was split off, is the seat itself or was joined into it
+  -- 0, and each number of a seat that was split off, is the seat's own or that of a seat that was joined into it
   abbrev pub HasEachNumber : ℕ → List (Ended A G) → List ℕ → Type 0
   HasEachNumber number joined born = Contains (numbers_of number joined) 0 × All (Contains (numbers_of number joined)) born
 
-  -- Of the entries that a seat has seen, those under its own number are its own, and those under the number of a
-  -- joined seat are the ones kept for it. A seat that has joined all others knows who made each entry
+  -- Of the entries that a seat has seen, those with its own number are `own`, and those with the number of a seat that
+  -- was joined into it are the ones kept for that seat. A seat that has joined all others knows who made each entry
   pub record IsWhole (number : ℕ) (seen own : List (Entry A G)) (joined : List (Ended A G)) (born : List ℕ) : Type 0 where
     pub own_is : entries_of number seen ≡ own
     pub joined_are : All (λ e. entries_of e.number seen ≡ e.own) joined
@@ -63,7 +63,7 @@ module _ {X A G : Type 0} where
   abbrev pub IsLegal : (X → List (A × G) → Type 0) → SeatState X A G → Type 0
   IsLegal runs s = runs s.start (pairs_of s.seen)
 
-  -- the seat has seen more, and then its own call, which is all that it made
+  -- the seat has seen what others did since, and then its own call, the only one that it made
   pub record Adds (s t : SeatState X A G) (ask : A) (got : G) : Type 0 where
     pub between : List (Entry A G)
     pub seen : t.seen ≡ (s.seen ++ between) ++ entry s.number ask got ∷ []
@@ -73,11 +73,11 @@ module _ {X A G : Type 0} where
   abbrev pub with_born : SeatState X A G → ℕ → SeatState X A G
   with_born s n = record s { born = s.born ++ n ∷ [] }
 
-  -- a seat that has seen what s has, and has done nothing
+  -- the seat n, which has seen what s has, and has made no call
   abbrev pub newcomer : SeatState X A G → ℕ → SeatState X A G
   newcomer s n = record s { number = n; own = []; ended = []; born = [] }
 
-  -- the seat s, with what the seat o did and what was joined into o
+  -- the seat s, when the seat o was joined into it
   abbrev pub joined_with : SeatState X A G → SeatState X A G → List (Entry A G) → SeatState X A G
   joined_with s o seen = record s { seen = seen; ended = s.ended ++ (o.ended ++ ended o.number o.own ∷ []); born = s.born ++ o.born }
 

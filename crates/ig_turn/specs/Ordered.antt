@@ -1,6 +1,6 @@
--- The rule of a turn's table, which each atomic step keeps.
--- The words are the next ticket, the ticket that is served, the number of entries in the history, and the next number of a seat.
--- The one slot holds the object.
+-- The invariant of a turn's table, `Ordered`, which each atomic step keeps. The words are the next ticket, the ticket that is
+-- served, the length of the history, and the next number for a seat. The one slot holds the object.
+-- A view is what one seat knows, and j, id and other are places in the table's list of views.
 use Rattle.std.specs.Prelude.{◌≡◌, ◌≢◌, ℕ, ◌+◌, ◌<◌, ◌≤◌, ◌^◌, true, cond, List, [], ◌∷◌, ◌++◌, map, length, nat_eq}
 use Rattle.std.specs.List.{AllByRecursion, Contains, IsDistinct}
 use mathlib.Core.Option.{Option, some, none}
@@ -14,12 +14,13 @@ use Rattle.ig_turn.specs.declared.view.Stage.TheVariants.{Idle, Waiting, Holding
 use Rattle.ig_turn.specs.declared.view.View.{View}
 use Rattle.ig_turn.specs.History.{pairs_of, entries_of, ended}
 
--- where the object is: in its slot, or out with the seat that is served, which has committed so many times in this turn
+-- where the object is: in its slot, or out with the seat that is served, which has committed that many times since it took it
 pub data Phase (O : Type 0) : Type 0 where
   home : O → Phase O
   out : ℕ → Phase O
 
--- whose ticket it is, by the ticket; which view has a number; and which number drew a number
+-- The words, the history and where the object is. By each ticket, which view has it; by each number, which view has it and
+-- under which number it was drawn
 pub record Board (O A G : Type 0) : Type 0 where
   pub ticket : ℕ
   pub serving : ℕ
@@ -48,7 +49,9 @@ module _ {A G : Type 0} where
   HasTicket t (Holding u l c) = u ≡ t
   HasTicket t _ = ⊥
 
-  -- what the view j has to do with numbers
+  -- What holds of the view j and the numbers of seats. `parts` are its numbers with their entries: they are exactly the
+  -- numbers that are the view's, all different, each with the entries that the history has of it. Each number that was drawn
+  -- under one of them is in `born`, and none was drawn under a number that no seat has yet
   pub record Numbers (seats : ℕ) (owner parent : ℕ → ℕ) (log : List (Entry A G)) (j : ℕ) (drawn : List ℕ) (parts : List (Ended A G)) (born : List ℕ) : Type 0 where
     pub each : AllByRecursion (λ e. (owner e.number ≡ j) × (e.number < seats) × (entries_of e.number log ≡ e.own)) parts
     pub different : IsDistinct nat_eq (map number_of parts)
@@ -58,7 +61,7 @@ module _ {A G : Type 0} where
     pub childless : AllByRecursion (λ d. (owner d ≡ j) × ((n : ℕ) → 0 < n → n < seats → parent n ≢ d)) drawn
 
 module _ {X A G : Type 0} where
-  -- a view's numbers, each with the entries under it: one that was drawn, its own, and those that were joined
+  -- a view's numbers, each with its entries: one that was drawn, the seat's own, and those of the seats that were joined
   abbrev pub parts_of : View X A G → List (Ended A G)
   parts_of v = map (λ n. ended n []) v.drawn ++ cond v.live (ended v.number v.own ∷ v.ended) []
 
@@ -71,12 +74,12 @@ module _ {O A G : Type 0} where
   StageFits b j (Waiting t) = (b.serving ≤ t) × (t < b.ticket) × (b.whose t ≡ j)
   StageFits b j (Holding t l c) = (t ≡ b.serving) × (t < b.ticket) × (b.whose t ≡ j) × (b.phase ≡ out c) × (l ≡ b.log)
 
-  -- the one that is served has the object where it is out
+  -- the view that is served holds the object where it is out
   abbrev pub HolderFits : Board O A G → ℕ → Phase O → Stage A G → Type 0
   HolderFits b j (home o) st = Unit {0}
   HolderFits b j (out c) st = b.whose b.serving ≡ j → st ≡ Holding b.serving b.log c
 
-  -- what the view j has to do with tickets
+  -- what holds of the view j and the tickets: each ticket from the one served up that is its own it knows of
   pub record Tickets (b : Board O A G) (j : ℕ) (st : Stage A G) : Type 0 where
     pub stage : StageFits b j st
     pub turn : (t : ℕ) → b.serving ≤ t → t < b.ticket → b.whose t ≡ j → HasTicket t st

@@ -1,4 +1,4 @@
--- What each step on the table tells the seat that makes it.
+-- What a seat's view is after each step that it makes, and what the step tells it.
 use Rattle.std.specs.Prelude.{◌≡◌, ◌≢◌, ◌⊎◌, ℕ, ◌<◌, ◌≤◌, ◌^◌, true, false, cond, nat_lt, List, [], ◌∷◌, ◌++◌, length, slice_index}
 use Rattle.std.specs.List.{AllByRecursion}
 use mathlib.Core.List.{IsPrefix}
@@ -18,6 +18,9 @@ module _ {A G : Type 0} where
   abbrev pub held_list : Stage A G → List (Entry A G)
   held_list (Holding t l c) = l
   held_list _ = []
+
+  abbrev pub held_pairs : Stage A G → List (A × G)
+  held_pairs st = pairs_of (held_list st)
 
   -- the seat holds the object, and has committed c times since it took it
   abbrev pub IsHolding : Stage A G → ℕ → Type 0
@@ -41,14 +44,14 @@ module _ {X A G : Type 0} where
   abbrev pub opening_view : X → View X A G
   opening_view x = record { start = x; stage = Idle; drawn = []; live = true; number = 0; seen = []; met = []; own = []; ended = []; born = [] }
 
-  -- a view that has no number: of a seat that was joined, or of a note from one seat to another
+  -- a view that has no number: that of a seat that was joined, or of a note from one seat to another
   abbrev pub numberless_view : X → List (Entry A G) → View X A G
   numberless_view x seen = record { start = x; stage = Idle; drawn = []; live = false; number = 0; seen = seen; met = []; own = []; ended = []; born = [] }
 
   abbrev pub IsWholeView : View X A G → Type 0
   IsWholeView v = IsWhole v.number v.seen v.own v.ended v.born × (length v.seen ≤ 2 ^ 62)
 
-  -- the view of the new seat, and what is left to the old one
+  -- the view of the seat that is split off, and of the one that it is split off
   abbrev pub right_of_split : View X A G → View X A G
   right_of_split v = record { start = v.start; stage = Idle; drawn = []; live = true; number = slice_index v.drawn 0; seen = v.seen; met = []; own = []; ended = []; born = [] }
 
@@ -59,11 +62,11 @@ module _ {X A G : Type 0} where
   abbrev pub note_of : View X A G → View X A G
   note_of v = numberless_view v.start v.seen
 
-  -- a view that has taken in another's, whose list it keeps beside its own
+  -- a view into which another was joined, whose list stands beside its own until the next load
   abbrev pub merged_view : View X A G → View X A G → View X A G
   merged_view v w = record v { met = w.seen; ended = v.ended ++ (w.ended ++ ended w.number w.own ∷ []); born = v.born ++ w.born }
 
-  -- a view that has taken in a note
+  -- a view into which a note was joined
   abbrev pub informed_view : View X A G → View X A G → View X A G
   informed_view v w = record v { met = w.seen }
 
@@ -74,11 +77,19 @@ module _ {X A G : Type 0} where
   abbrev pub committed_view : View X A G → ℕ → List (Entry A G) → A → G → View X A G
   committed_view v t l ask got = record v { stage = Holding t (l ++ entry v.number ask got ∷ []) 1; seen = l ++ entry v.number ask got ∷ []; own = v.own ++ entry v.number ask got ∷ [] }
 
+  -- the same, by what the view itself says that it holds
+  abbrev pub view_with_call : View X A G → A → G → View X A G
+  view_with_call v ask got = committed_view v (held_ticket v.stage) (held_list v.stage) ask got
+
+  -- the view, when it has drawn a number for a new seat
+  abbrev pub view_with_number : View X A G → ℕ → View X A G
+  view_with_number v n = record v { drawn = n ∷ []; born = v.born ++ n ∷ [] }
+
   -- each list that is kept under a number is what either list of the view has under it
   abbrev pub KeepsParts : View X A G → Type 0
   KeepsParts v = AllByRecursion (λ e. (entries_of e.number v.seen ≡ e.own) ⊎ (entries_of e.number v.met ≡ e.own)) (ended v.number v.own ∷ v.ended)
 
-  -- the view has seen more, and then its own call
+  -- the view has seen what others did since, and then its own call
   abbrev pub AddsView : View X A G → View X A G → A → G → Type 0
   AddsView v w ask got = (between : List (Entry A G)) × (w ≡ record v { seen = (v.seen ++ between) ++ entry v.number ask got ∷ []; own = v.own ++ entry v.number ask got ∷ [] })
 
@@ -95,6 +106,11 @@ module _ {X A G : Type 0} where
     -- the seat has taken the object, which stands for these pairs
     abbrev pub Carries : (O → X → List (A × G) → Type 0) → Me O (View X A G) → List (A × G) → Type 0
     Carries stands me pairs = (o : O) × (me.1 ≡ (0, o) ∷ []) × stands o me.0.start pairs
+
+    -- with this ticket the seat has taken the object, which has a history of which the seat has seen a prefix
+    abbrev pub HasTaken : (O → X → List (A × G) → Type 0) → Me O (View X A G) → ℕ → Me O (View X A G) → Type 0
+    HasTaken stands me ticket me' = (history : List (Entry A G)) × (me'.0 ≡ with_stage me.0 (Holding ticket history 0))
+        × Carries stands me' (pairs_of history) × IsPrefix me.0.seen history
 
     -- a ticket was drawn where the word was as expected
     abbrev pub DrawsTicket : Step O → Me O (View X A G) → ℕ → Me O (View X A G) → Type 0
@@ -118,10 +134,10 @@ module _ {X A G : Type 0} where
     -- a number was drawn where the word was as expected
     abbrev pub DrawsNumber : Step O → Me O (View X A G) → ℕ → Me O (View X A G) → Type 0
     DrawsNumber s me found me' =
-        (found ≡ s.first → (me' ≡ (record me.0 { drawn = found ∷ []; born = me.0.born ++ found ∷ [] }, me.1)) × (me.0.number < found) × AllByRecursion (λ n. n < found) me.0.born
-        × (entries_of found me.0.seen ≡ []))
+        (found ≡ s.first → (me' ≡ (view_with_number me.0 found, me.1)) × (me.0.number < found)
+        × AllByRecursion (λ n. n < found) me.0.born × (entries_of found me.0.seen ≡ []))
         × (found ≢ s.first → me' ≡ me)
 
-    -- both lists that the view keeps are beginnings of the longer one, which it has seen from now on
+    -- both lists of the view are prefixes of the longer one, which it has seen from now on
     abbrev pub Settles : Step O → Me O (View X A G) → ℕ → Me O (View X A G) → Type 0
     Settles s me found me' = (me' ≡ (settled_view me.0, me.1)) × IsLonger me.0.seen me.0.met me'.0.seen × (KeepsParts me.0 → IsWholeView me'.0)

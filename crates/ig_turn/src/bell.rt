@@ -1,17 +1,17 @@
-//! Sleeping until the turn is passed. It tells nothing: whoever wakes looks again.
+//! Where waiters sleep until the turn is passed. No proof rests on it: a waiter that wakes looks again.
 use std::sync::Wait;
 use std::sync::atomic::AtomicU64;
 use std::sync::atomic::Ordering::SeqCst;
 
 const LOW_BITS: u64 = 0xffff_ffff;
 
-/// The word is odd where a call may sleep. It grows whenever one is woken.
+/// The word that waiters sleep on. It is odd while one may sleep, and grows when one is woken.
 #[derive(Drop)]
 pub(crate) struct Bell {
     word: AtomicU64,
 }
 
-/// What a call sleeps on.
+/// The low half of the bell's word, as a waiter saw it before it sleeps.
 #[derive(Clone, Copy)]
 pub(crate) struct Mark(u32);
 
@@ -22,24 +22,24 @@ impl Bell {
         }
     }
 
-    /// Asks that the next pass wakes a call. Who asks and then sees that the turn is taken may sleep: it is passed after
-    /// that look, and so the bell rings.
+    /// Asks that the next pass wakes a waiter. A waiter that asks, and then finds the turn taken, may
+    /// sleep: the turn is passed after that, and so the bell rings.
     pub(crate) fn ask(&self) -> Mark {
         Mark(((self.word.fetch_or(1, SeqCst) | 1) & LOW_BITS) as u32)
     }
 
-    /// True where the next pass wakes a call.
+    /// True where the next pass wakes a waiter.
     pub(crate) fn is_asked(&self) -> bool {
         self.word.load(SeqCst) % 2 == 1
     }
 
-    /// Sleeps unless the bell rang since the mark was made. Others may sleep still, so who was woken asks again before it
-    /// sleeps or passes the turn.
+    /// Sleeps unless the bell rang since the mark was made. Others may still sleep, so a waiter that was
+    /// woken asks again before it sleeps or passes the turn.
     pub(crate) fn sleep<R: Wait>(&self, rt: &R, mark: Mark) {
         self.word.park(rt, mark.0);
     }
 
-    /// Wakes one call, if any may sleep.
+    /// Wakes one waiter, if any may sleep.
     pub(crate) fn ring(&self) {
         let word = self.word.load(SeqCst);
         if word % 2 == 1

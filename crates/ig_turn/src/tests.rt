@@ -1,4 +1,4 @@
-//! A map of numbers behind a turn.
+//! A map of numbers behind a turn: one thread, two seats, and eight threads.
 ghost use Rattle.std.specs.Prelude.{◌≡◌, ◌<◌, pos, [], ◌∷◌, All, IfOk, IfSome};
 ghost use Rattle.ig_turn.specs.History.{IsOf, entry, ended, first_seat, newcomer, with_born};
 
@@ -110,7 +110,7 @@ const CALLS: i32 = 1000;
 
 const THREADS: usize = 8;
 
-// Calls again and again, until memory is short.
+// Makes its calls, until one is handed back.
 fn work<R: Wait>(rt: &R, turn: &Turn<Cells>, worked: &mut Worked)
     requires { IsOf turn.now worked.old.seat }
     ensures { IsOf turn.now worked.new.seat }

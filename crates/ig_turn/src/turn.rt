@@ -1,4 +1,4 @@
-//! The turn.
+//! The lock and its calls: `Turn::new`, `run`, `split`, `join` and `meet`.
 ghost use Rattle.std.specs.Prelude.{◌≡◌, ◌≢◌, ◌<◌, ◌^◌, [], ◌∷◌, ◌++◌, All, IfOk, IfErr, IsOk};
 ghost use mathlib.Core.List.{IsPrefix};
 ghost use Rattle.ig_turn.specs.History.{IsOf, IsLegal, IsLonger, IsWholeSeat, HasJoinedAll, Adds, entry, first_seat, with_born, newcomer, joined_with, with_seen};
@@ -12,7 +12,7 @@ use std::marker::Model;
 use std::mem;
 use std::sync::Wait;
 
-/// An object that many threads call, one at a time.
+/// An object that many threads call, one call at a time.
 #[derive(Drop)]
 pub struct Turn<O: Plain> {
     desk: Desk<O>,
@@ -27,7 +27,8 @@ impl<O: Plain> Model for Turn<O> {
 }
 
 impl<O: Plain> Turn<O> {
-    /// Puts an object behind a turn. The seat is the first one, with number 0.
+    /// Puts an object behind a turn. The seat is the first one, with number 0. Out of memory, the
+    /// object comes back.
     pub fn new(alloc: Global, object: O) -> Result<(Turn<O>, TurnSeat<O>), NoRoom<O>>
         requires { O.stands object (O.start_of object) [] }
         ensures start { IfOk result (λ made. made.0.start ≡ O.start_of object) }
@@ -40,7 +41,8 @@ impl<O: Plain> Turn<O> {
         Ok((Turn { desk }, TurnSeat { number: 0, place }))
     }
 
-    /// Waits for the turn and asks the object. An ask that it has no room for comes back, and leaves no entry.
+    /// Waits for the turn and asks the object. An ask that it hands back, out of memory, leaves no
+    /// entry. A seat that has joined all others sees its calls one right after the other.
     /// It takes no memory but in the object's `act`. Once 2^62 tickets were drawn it never returns.
     pub fn run<R: Wait>(
         &self,
@@ -61,7 +63,8 @@ impl<O: Plain> Turn<O> {
         self.desk.call(rt, &mut seat.place, ask)
     }
 
-    /// A new seat, for another caller. It has seen what this one has, and done nothing. It takes no memory.
+    /// A new seat, for another thread. It has seen what this one has, and made no call. Its number is
+    /// above this seat's and above all in this seat's `born`. It takes no memory, and it may wait.
     /// Once 2^62 numbers were drawn it never returns.
     pub fn split<R: Wait>(&self, rt: &R, seat: &mut TurnSeat<O>) -> TurnSeat<O>
         requires own { IsOf self.now seat.old }
@@ -77,8 +80,8 @@ impl<O: Plain> Turn<O> {
         TurnSeat { number, place }
     }
 
-    /// The other seat ends. This one has seen what either has, and keeps what the other did under its number.
-    /// It takes no memory and doesn't wait, and nor does `meet`.
+    /// The other seat ends. This one has seen the longer of what both had, and keeps the other's calls
+    /// under the other's number. It takes no memory and never waits.
     pub fn join(&self, seat: &mut TurnSeat<O>, other: TurnSeat<O>)
         requires own { IsOf self.now seat.old × IsOf self.now other }
         ensures own { IsOf self.now seat.new }
@@ -91,7 +94,7 @@ impl<O: Plain> Turn<O> {
         self.desk.join(&mut seat.place, place);
     }
 
-    /// The learner has seen what either has.
+    /// The learner has then seen the longer of what both had. It takes no memory and never waits.
     pub fn meet(&self, teller: &mut TurnSeat<O>, learner: &mut TurnSeat<O>)
         requires own { IsOf self.now teller.old × IsOf self.now learner.old }
         ensures own { IsOf self.now teller.new × IsOf self.now learner.new }
