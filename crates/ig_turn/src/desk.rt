@@ -15,6 +15,7 @@ use crate::rule::{
     TakeObject,
 };
 use crate::view::View;
+use crate::waiter::Waiter;
 use atomic_table::{Refused, Seat, Table};
 use ig_base::NoRoom;
 use std::alloc::{AllocFailed, Global};
@@ -100,55 +101,75 @@ impl<O: Plain> Desk<O> {
         ensures table { place.new.table_id ≡ place.old.table_id }
         ensures drawn { place.new.me ≡ (with_stage place.old.me.0 (Waiting result), place.old.me.1) }
     {
-        let mut backoff = Backoff::new();
-        let mut slept = false;
+        let mut waiter = Waiter::new();
         for _ in rt.forever() {
-            if let Some(ticket) = self.free_ticket() {
+            if let Some(ticket) = self.free_ticket(&waiter) {
                 let found = self
                     .table
                     .shared
                     .compare_exchange::<DrawTicket>(place, TICKET, ticket, ticket + 1);
                 if found == ticket {
-                    if slept {
-                        self.bell.ask();
-                    }
+                    self.stop_waiting(&waiter);
                     return ticket;
                 }
             }
-            if self.wait(rt, &mut backoff) {
-                slept = true;
-            }
+            self.wait(rt, &mut waiter);
         }
         unreachable!()
     }
 
-    // The next ticket, if nobody has the turn and a ticket is left.
-    fn free_ticket(&self) -> Option<u64>
+    // The next ticket, if nobody has the turn, no other waiter has it reserved and a ticket is left.
+    fn free_ticket(&self, waiter: &Waiter) -> Option<u64>
         ensures { IfSome result (λ ticket. ticket < MOST) }
     {
         let serving = self.table.shared.peek(SERVING);
         let ticket = self.table.shared.peek(TICKET);
-        if ticket == serving && ticket < MOST {
-            Some(ticket)
-        } else {
-            None
+        if ticket != serving || ticket >= MOST {
+            return None;
         }
+        if !waiter.has_reservation && self.bell.is_reserved() {
+            return None;
+        }
+        Some(ticket)
     }
 
     // Waits a little before the next look: it pauses, or, where it has paused for long or others sleep
-    // already, sleeps until the turn is passed, unless the turn is free by then. True where it slept.
-    fn wait<R: Wait>(&self, rt: &R, backoff: &mut Backoff) -> bool {
-        if !backoff.is_completed() && !self.bell.is_asked() {
-            backoff.spin();
-            return false;
+    // already, sleeps until the turn is passed, unless it may draw by then.
+    fn wait<R: Wait>(&self, rt: &R, waiter: &mut Waiter) {
+        if waiter.has_reservation {
+            self.wait_reserved(rt, waiter);
+            return;
+        }
+        if !waiter.backoff.is_completed() && !self.bell.is_asked() {
+            waiter.backoff.spin();
+            return;
         }
         let mark = self.bell.ask();
-        if self.free_ticket().is_some() {
-            return false;
+        if self.free_ticket(waiter).is_some() {
+            return;
         }
-        self.bell.sleep(rt, mark);
-        *backoff = Backoff::new();
-        true
+        waiter.has_reservation = self.bell.sleep(rt, mark);
+        waiter.has_slept = true;
+        waiter.backoff = Backoff::new();
+    }
+
+    // The same, for the waiter that has the turn reserved.
+    fn wait_reserved<R: Wait>(&self, rt: &R, waiter: &Waiter) {
+        self.bell.ask_reserved();
+        if self.free_ticket(waiter).is_none() {
+            self.bell.sleep_reserved(rt);
+        }
+    }
+
+    // Of a waiter that has drawn its ticket: the next turn is anybody's, and where others may sleep the
+    // next pass wakes one.
+    fn stop_waiting(&self, waiter: &Waiter) {
+        if waiter.has_reservation {
+            self.bell.give_up();
+        }
+        if waiter.has_slept {
+            self.bell.ask();
+        }
     }
 
     // Takes the object once the ticket is served. One that `draw` gave is served at once.

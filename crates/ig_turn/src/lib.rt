@@ -37,6 +37,7 @@ mod seat;
 mod tests;
 mod turn;
 mod view;
+mod waiter;
 
 pub use ig_base::Entry;
 pub use plain::Plain;
