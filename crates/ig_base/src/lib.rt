@@ -8,6 +8,7 @@
 //! Contracts see [`Text`], [`Octets`] and [`Items`] as lists, so a tree of them is plain data.
 #![tactic(auto)]
 
+mod entry;
 mod frames;
 mod hashes;
 mod items;
@@ -17,6 +18,7 @@ mod numbers;
 mod octets;
 mod text;
 
+pub use entry::Entry;
 pub use frames::{frame_is_read, one_cut};
 pub use hashes::text_hash;
 pub use items::Items;

@@ -1,8 +1,8 @@
-pub mod Lists
-pub mod Boards
-pub mod Calls
-pub mod Seats
-pub mod Opens
-pub mod Wholes
-pub mod Cells
-pub mod TwoCalls
+pub mod ListLemmas
+pub mod BoardLemmas
+pub mod CallLemmas
+pub mod SeatLemmas
+pub mod OpeningLemmas
+pub mod WholeLemmas
+pub mod CellsLemmas
+pub mod TwoCallsLemmas

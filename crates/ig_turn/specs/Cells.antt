@@ -1,4 +1,4 @@
--- The tests' object: a map of numbers, which counts its calls. An ask is a key and a value to put there, or none. The got is the call's place and what the key had.
+-- Used by this crate's tests alone, whose object has to find its meaning here: a map of numbers, which counts its calls. An ask is a key and a value to put there, or none. The got is the call's place and what the key had.
 use Rattle.std.specs.Prelude.{◌≡◌, ℕ, ◌+◌, ℤ, List, [], ◌∷◌, ◌++◌, Option, Some, None, length}
 use Rattle.std.specs.Ordering.{int_cmp}
 use Rattle.std.specs.BTreeMap.{insert_entry, is_at}

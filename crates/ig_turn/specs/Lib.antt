@@ -1,7 +1,7 @@
 pub use Rattle.atomic_table.specs.Seated
-pub mod Objects
-pub mod States
+pub mod GainsPair
+pub mod SeatState
 pub mod History
-pub mod Rule
+pub mod Ordered
 pub mod Steps
 pub mod Cells

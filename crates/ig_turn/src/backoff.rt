@@ -1,14 +1,15 @@
-//! The pauses of a call that waits for the turn. Each look at a word takes its cache line from the call that has the turn, and
-//! taking a turn that others want moves the object's line too, so a call that waits looks seldom, and ever more seldom.
+//! The exponential backoff of a waiter. Each look at a word takes its cache line from the thread that
+//! has the turn, and a turn that goes to another thread moves the object's lines too, so a waiter looks
+//! seldom, and ever more seldom.
 use std::hint;
 
-// Pauses before the second look. Before each later one there are twice as many.
+// The pauses before the second look. Before each later one there are twice as many.
 const FIRST_PAUSES: u32 = 8;
 
-// A call that has paused so often in one go has waited long enough to sleep.
+// A waiter that has paused this often between two looks sleeps next.
 const MOST_PAUSES: u32 = 256;
 
-/// How often a call pauses before its next look.
+/// How often a waiter pauses before its next look.
 #[derive(Drop)]
 pub(crate) struct Backoff {
     pauses: u32,

@@ -1,4 +1,4 @@
-//! A caller's place at a turn.
+//! The token with which one thread calls a turn.
 ghost use Rattle.std.specs.Prelude.{◌≡◌};
 ghost use Rattle.ig_turn.specs.History.{IsLegal, IsWholeSeat};
 
@@ -6,7 +6,8 @@ use crate::desk::Place;
 use crate::plain::Plain;
 use std::marker::Model;
 
-/// A caller's place at a turn. It knows a beginning of the turn's history, and which calls of it are its own.
+/// The token with which one thread calls a turn. It knows a prefix of the turn's history, and which
+/// calls in it are its own.
 #[derive(Drop)]
 pub struct TurnSeat<O: Plain> {
     pub(crate) number: u64,
@@ -15,7 +16,7 @@ pub struct TurnSeat<O: Plain> {
 
 impl<O: Plain> Model for TurnSeat<O> {
     ghost use Rattle.std.specs.Prelude.{◌≡◌, []};
-    ghost use Rattle.ig_turn.specs.States.{SeatState};
+    ghost use Rattle.ig_turn.specs.SeatState.{SeatState};
     ghost use Rattle.ig_turn.specs.Steps.{IsAtRest};
 
     ghost Value = { SeatState O.Start O.AskData O.GotData };
@@ -26,7 +27,8 @@ impl<O: Plain> Model for TurnSeat<O> {
 }
 
 impl<O: Plain> TurnSeat<O> {
-    /// The seat's number, which no other seat of its turn has. What always holds of a seat is told beside it.
+    /// The seat's number, which no other seat of its turn has. The clauses also tell what holds of every
+    /// seat, for who was lent one and knows nothing of it.
     pub fn number(&self) -> u64
         ensures number { result ≡ self.now.number }
         ensures legal { IsLegal O.runs self.now }

@@ -1,6 +1,6 @@
-//! A map of numbers behind a turn.
+//! A map of numbers behind a turn: one thread, two seats, and eight threads.
 ghost use Rattle.std.specs.Prelude.{◌≡◌, ◌<◌, pos, [], ◌∷◌, All, IfOk, IfSome};
-ghost use Rattle.ig_turn.specs.History.{IsOf, entry, ended, opened, newcomer, with_born};
+ghost use Rattle.ig_turn.specs.History.{IsOf, entry, ended, first_seat, newcomer, with_born};
 
 use crate::{Plain, Turn, TurnSeat};
 use ig_base::NoRoom;
@@ -110,7 +110,7 @@ const CALLS: i32 = 1000;
 
 const THREADS: usize = 8;
 
-// Calls again and again, until memory is short.
+// Makes its calls, until one is handed back.
 fn work<R: Wait>(rt: &R, turn: &Turn<Cells>, worked: &mut Worked)
     requires { IsOf turn.now worked.old.seat }
     ensures { IsOf turn.now worked.new.seat }
@@ -199,8 +199,8 @@ fn put_and_get<R: Wait>(
     a: &mut TurnSeat<Cells>,
     mut b: TurnSeat<Cells>,
 ) -> Option<(Got, Got)>
-    requires a { a.old ≡ with_born (opened turn.now) b.number }
-    requires b { (b ≡ newcomer (opened turn.now) b.number) × (0 < b.number) }
+    requires a { a.old ≡ with_born (first_seat turn.now) b.number }
+    requires b { (b ≡ newcomer (first_seat turn.now) b.number) × (0 < b.number) }
     ensures seen { IfSome result (λ got. a.new.seen ≡ entry 0 (pos 1, Some (pos 2)) got.0 ∷ entry b.number (pos 1, None) got.1 ∷ []) }
     ensures ended { IfSome result (λ got. a.new.ended ≡ ended b.number (entry b.number (pos 1, None) got.1 ∷ []) ∷ []) }
 {

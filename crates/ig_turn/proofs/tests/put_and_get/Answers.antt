@@ -1,6 +1,6 @@
 use Rattle.std.proofs.Common.{◌∙◌, ap, subst}
 use Rattle.ig_turn.specs.History.{joined_with, IsLonger}
-use Rattle.ig_turn.proofs.TwoCalls.{two_calls}
+use Rattle.ig_turn.proofs.TwoCallsLemmas.{two_calls}
 use Rattle.ig_turn.proofs.tests.put_and_get.Goals as goal
 
 pub returns-clause-seen : goal.returns-clause-seen

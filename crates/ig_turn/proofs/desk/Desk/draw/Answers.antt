@@ -1,5 +1,5 @@
 use Rattle.std.proofs.Common.{rules, refl}
-use Rattle.ig_turn.proofs.Calls.{draws}
+use Rattle.ig_turn.proofs.CallLemmas.{draws}
 use Rattle.ig_turn.proofs.desk.Desk.draw.Goals as goal
 
 pub compare_exchange-found-requires : goal.compare_exchange-found-requires

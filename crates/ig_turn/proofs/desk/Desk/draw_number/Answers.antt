@@ -1,5 +1,5 @@
 use Rattle.std.proofs.Common.{rules, refl}
-use Rattle.ig_turn.proofs.Seats.{draws_it}
+use Rattle.ig_turn.proofs.SeatLemmas.{draws_it}
 use Rattle.ig_turn.proofs.desk.Desk.draw_number.Goals as goal
 
 pub compare_exchange-found-requires : goal.compare_exchange-found-requires

@@ -5,6 +5,5 @@ use Rattle.ig_turn.proofs.desk.Desk.draw_number.Given as goal
 abbrev pub invariant-loop : goal.invariant-loop
 invariant-loop g l = record {
   table : l.place.table_id ≡ l.initial.place.table_id;
-  id : l.place.id ≡ l.initial.place.id;
   me : l.place.me ≡ l.initial.place.me;
 }

@@ -1,8 +1,8 @@
 use Rattle.std.proofs.Common.{rules, ◌≡◌, List, [], ◌∷◌, sym, subst}
 use Rattle.atomic_table.specs.Table.{opening}
-use Rattle.ig_turn.specs.Rule.{Ordered}
+use Rattle.ig_turn.specs.Ordered.{Ordered}
 use Rattle.ig_turn.specs.Steps.{opening_view}
-use Rattle.ig_turn.proofs.Opens.{opens}
+use Rattle.ig_turn.proofs.OpeningLemmas.{opens}
 use Rattle.ig_turn.proofs.desk.Desk.new.Goals as goal
 
 pub new-requires : goal.new-requires

@@ -1,5 +1,5 @@
 use Rattle.std.proofs.Common.{rules}
-use Rattle.ig_turn.proofs.Calls.{passes_turn}
+use Rattle.ig_turn.proofs.CallLemmas.{passes_turn}
 use Rattle.ig_turn.proofs.desk.Desk.pass.Goals as goal
 
 pub fetch_add-requires : goal.fetch_add-requires

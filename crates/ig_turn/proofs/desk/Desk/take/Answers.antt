@@ -1,5 +1,5 @@
 use Rattle.std.proofs.Common.{rules}
-use Rattle.ig_turn.proofs.Calls.{takes_it}
+use Rattle.ig_turn.proofs.CallLemmas.{takes_it}
 use Rattle.ig_turn.proofs.desk.Desk.take.Goals as goal
 
 pub load-requires : goal.load-requires

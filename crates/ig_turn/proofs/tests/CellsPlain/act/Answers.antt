@@ -3,7 +3,7 @@ use Rattle.std.proofs.lemmas.Int.{to_z-of_z}
 use Rattle.std.specs.BTreeMap.{insert_entry}
 use Rattle.std.specs.Ordering.{int_cmp}
 use Rattle.ig_turn.specs.Cells.{value_at}
-use Rattle.ig_turn.proofs.Cells.{stands_get, stands_put}
+use Rattle.ig_turn.proofs.CellsLemmas.{stands_get, stands_put}
 use Rattle.ig_turn.proofs.tests.CellsPlain.act.Goals as goal
 use Rattle.ig_turn.proofs.tests.CellsPlain.act.Goals.{in-None, in-Some+in-Ok}
 

@@ -1,7 +1,7 @@
-use Rattle.std.proofs.Common.{sym, ap, subst, []}
+use Rattle.std.proofs.Common.{sym, ap, subst, [], arith}
 use Rattle.ig_turn.specs.declared.view.View.{View}
 use Rattle.ig_turn.specs.Steps.{IsAtRest, IsWholeView}
-use Rattle.ig_turn.proofs.Opens.{rest_opened, whole_opened}
+use Rattle.ig_turn.proofs.OpeningLemmas.{rest_opened, whole_opened}
 use Rattle.ig_turn.proofs.turn.Turn.new.Goals as goal
 
 pub invariant_of-result : goal.invariant_of-result
@@ -14,4 +14,4 @@ invariant_of-result g c = let start = g.O.Plain.start_of c.args.object in let me
 
 pub returns-clause-whole : goal.returns-clause-whole
 returns-clause-whole g c = let me = c.in_ok-desk.ensures.place.1 in
-    subst (λ (v : View g.row.O-Start.Denot g.row.O-AskData.Denot g.row.O-GotData.Denot). IsWholeView v) (λ i. (sym me i).0) whole_opened
+    subst (λ (v : View g.row.O-Start.Denot g.row.O-AskData.Denot g.row.O-GotData.Denot). IsWholeView v) (λ i. (sym me i).0) (whole_opened, omega arith)

@@ -1,14 +1,14 @@
 -- The table at the start meets the rule.
-use Rattle.std.proofs.Common.{◌≡◌, ℕ, suc, zero, List, [], ◌∷◌, refl, sym, subst, arith, inl}
+use Rattle.std.proofs.Common.{◌≡◌, ℕ, suc, zero, List, [], ◌∷◌, refl, sym, subst, arith}
 use mathlib.Core.Option.{some, some-injective, some-ne-none}
 use lib.ListN.{get_elem?}
 use Rattle.atomic_table.specs.Table.{opening}
 use Rattle.ig_turn.specs.declared.view.View.{View}
-use Rattle.ig_turn.specs.Rule.{home, Board, Knows, Ordered}
+use Rattle.ig_turn.specs.Ordered.{home, Board, Knows, Ordered}
 use Rattle.std.proofs.lemmas.List.Elements.{All-nil}
 use Rattle.ig_turn.specs.History.{IsWhole}
 use Rattle.ig_turn.specs.Steps.{opening_view, IsAtRest}
-use Rattle.ig_turn.proofs.Lists.{distinct_from_apart}
+use Rattle.ig_turn.proofs.ListLemmas.{distinct_one, contains_first}
 
 module _ {O X A G : Type 0} (stands : O → X → List (A × G) → Type 0) (start : X) where
   abbrev first_board : O → Board O A G
@@ -31,8 +31,8 @@ module _ {O X A G : Type 0} (stands : O → X → List (A × G) → Type 0) (sta
     tickets = record { stage = tt; turn = λ t low high is. absurd (omega arith); holder = tt };
     numbers = record {
       each = ((refl, omega arith, refl), tt);
-      different = (λ h. h, tt);
-      has = λ n high is. inl (omega arith);
+      different = distinct_one 0;
+      has = λ n high is. contains_first [] n 0 (omega arith);
       kin = λ n low high is. absurd (omega arith);
       below = tt;
       childless = tt;
@@ -64,18 +64,18 @@ module _ {O X A G : Type 0} (stands : O → X → List (A × G) → Type 0) (sta
 
 pub whole_opened : {A G : Type 0} → IsWhole {A = A} {G = G} 0 [] [] [] []
 whole_opened = record {
-  short = omega arith;
   own_is = refl;
   joined_are = All-nil _;
-  different = distinct_from_apart (0 ∷ []) (λ h. h, tt);
-  all_known = λ _ _. All-nil _;
+  different = distinct_one 0;
+  all_known = λ _. All-nil _;
 }
 
 pub rest_opened : {X A G : Type 0} (runs : X → List (A × G) → Type 0) (x : X) → runs x [] → IsAtRest runs (opening_view x)
 rest_opened runs x legal = record {
   idle = refl;
+  none_drawn = refl;
   live = refl;
   met_none = refl;
   legal = legal;
-  whole = whole_opened;
+  whole = (whole_opened, omega arith);
 }

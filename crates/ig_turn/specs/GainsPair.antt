@@ -1,4 +1,4 @@
--- How the meaning of an object changes by a call.
+-- How a call changes what an object stands for.
 use Rattle.std.specs.Prelude.{List, [], ◌∷◌, ◌++◌}
 
 module _ {O X P : Type 0} where

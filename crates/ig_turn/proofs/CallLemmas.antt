@@ -10,16 +10,17 @@ use prog.Atomic.{either}
 use Rattle.std.specs.Prelude.{slice_index_or}
 use Rattle.atomic_table.specs.Table.{State, Me, step, keeps, takes, gives, rest, stepped, Allows, Act, Valid, carried_after}
 use Rattle.atomic_table.proofs.Lists.{set_again}
-use Rattle.ig_turn.specs.declared.view.Entry.{Entry}
+use Rattle.ig_base.specs.declared.entry.Entry.{Entry}
 use Rattle.ig_turn.specs.declared.view.Ended.{Ended}
 use Rattle.ig_turn.specs.declared.view.Stage.{Stage}
 use Rattle.ig_turn.specs.declared.view.Stage.TheVariants.{Idle, Waiting, Holding}
 use Rattle.ig_turn.specs.declared.view.View.{View}
-use Rattle.ig_turn.specs.History.{under, entry, ended, pairs_of, numbers_of, IsWhole}
-use Rattle.ig_turn.specs.Rule.{Phase, home, out, Board, Has, Each, number_of, drawn_of, parts_of, homes_of, commits_of, HolderFits, Tickets, Numbers, Knows, ObjectFits, Ordered}
-use Rattle.ig_turn.specs.Steps.{staged, held_ticket, held_list, committed_view, IsWholeView, draws_ticket, takes_object, commits, passes}
-use Rattle.ig_turn.proofs.Lists.{prefix_refl, prefix_more, each_weaker, each_has, each_in, all_from_each, each_from_all, has_from_contains, contains_from_has, distinct_from_apart, under_some, under-other}
-use Rattle.ig_turn.proofs.Boards.{put, put_here, put_else, views_set, waiting_or_holding, with_ticket, with_phase, with_entry, with_next, tickets_drawn, tickets_mine, tickets_taken, tickets_taking, tickets_logged, tickets_logging, tickets_passed, tickets_passing, numbers_logged, numbers_logging}
+use Rattle.ig_turn.specs.History.{entries_of, entry, ended, pairs_of, numbers_of, IsWhole}
+use Rattle.std.specs.List.{AllByRecursion, Contains}
+use Rattle.ig_turn.specs.Ordered.{Phase, home, out, Board, number_of, parts_of, homes_of, commits_of, HolderFits, Tickets, Numbers, Knows, ObjectFits, Ordered}
+use Rattle.ig_turn.specs.Steps.{with_stage, held_ticket, held_list, committed_view, IsWholeView, DrawsTicket, TakesObject, Commits, Passes}
+use Rattle.ig_turn.proofs.ListLemmas.{prefix_refl, prefix_more, prefix_inside, each_weaker, each_has, each_in, all_from_each, each_from_all, entries_of_some, entries_of-other}
+use Rattle.ig_turn.proofs.BoardLemmas.{put, put_here, put_else, views_set, waiting_or_holding, with_ticket, with_phase, with_entry, with_next, tickets_drawn, tickets_mine, tickets_taken, tickets_taking, tickets_logged, tickets_logging, tickets_passed, tickets_passing, numbers_logged, numbers_logging}
 
 pub at_bound : {T : Type 0} (l : List T) (i : ℕ) (x : T) → get_elem? l i ≡ some x → i < length l
 at_bound [] i x e = absurd (some-ne-none x (sym e))
@@ -34,42 +35,33 @@ module _ {A G : Type 0} where
 
   -- whoever has 0 and all its `born` among its numbers has every number that was drawn
   module _ (seats : ℕ) (owner parent : ℕ → ℕ) (log : List (Entry A G)) (j : ℕ) (parts : List (Ended A G)) (born : List ℕ) (k : Numbers seats owner parent log j [] parts born)
-      (older : (n : ℕ) → 0 < n → n < seats → parent n < n) (zeroth : Has (map number_of parts) 0) (every : Each (Has (map number_of parts)) born) where
-    all_below : (bound n : ℕ) → n < bound → n < seats → Has (map number_of parts) n
+      (older : (n : ℕ) → 0 < n → n < seats → parent n < n) (zeroth : Contains (map number_of parts) 0) (every : AllByRecursion (Contains (map number_of parts)) born) where
+    all_below : (bound n : ℕ) → n < bound → n < seats → Contains (map number_of parts) n
     all_below zero n lt high = absurd (omega arith)
-    all_below (suc bound) n lt high = dite (ℕ_discrete n 0) (λ e. subst (Has (map number_of parts)) (sym e) zeroth)
+    all_below (suc bound) n lt high = dite (ℕ_discrete n 0) (λ e. subst (Contains (map number_of parts)) (sym e) zeroth)
         (λ other. let less = older n (omega arith) high in
         let up = each_has _ number_of parts (parent n) k.each (all_below bound (parent n) (omega arith) (omega arith)) in
         each_in _ born n every (k.kin n (omega arith) high (ap owner (sym up.2) ∙ up.1.0)))
 
-    pub every_entry : ((n : ℕ) → seats ≤ n → under n log ≡ []) → Each (λ e. Has (map number_of parts) e.number) log
-    every_entry fresh = each_weaker _ _ (λ e made. known e made (dite (dec_lt e.number seats) (λ lt. inl lt) (λ not. inr (omega arith)))) log (under_some log)
+    pub every_entry : ((n : ℕ) → seats ≤ n → entries_of n log ≡ []) → AllByRecursion (λ e. Contains (map number_of parts) e.seat) log
+    every_entry fresh = each_weaker _ _ (λ e made. known e made (dite (dec_lt e.seat seats) (λ lt. inl lt) (λ not. inr (omega arith)))) log (entries_of_some log)
       where
-        known : (e : Entry A G) → (under e.number log ≡ [] → ⊥) → (e.number < seats) ⊎ (seats ≤ e.number) → Has (map number_of parts) e.number
-        known e made (inl lt) = all_below (suc e.number) e.number (omega arith) lt
-        known e made (inr le) = absurd (made (fresh e.number le))
+        known : (e : Entry A G) → (entries_of e.seat log ≡ [] → ⊥) → (e.seat < seats) ⊎ (seats ≤ e.seat) → Contains (map number_of parts) e.seat
+        known e made (inl lt) = all_below (suc e.seat) e.seat (omega arith) lt
+        known e made (inr le) = absurd (made (fresh e.seat le))
 
-  each_front : (P : Entry A G → Type 0) (xs ys : List (Entry A G)) → IsPrefix xs ys → Each P ys → Each P xs
-  each_front P xs ys p h = front xs p.0 (subst (Each P) (sym p.1) h)
-    where
-      front : (xs zs : List (Entry A G)) → Each P (xs ++ zs) → Each P xs
-      front [] zs h = tt
-      front (x ∷ xs) zs h = (h.0, front xs zs h.1)
-
-  -- what a seat knows of its numbers, from what the rule knows
+  -- What a seat knows of its numbers, from what the rule knows. The entries of `seen` need not stand in the log's order
   pub whole_from : (seats : ℕ) (owner parent : ℕ → ℕ) (log : List (Entry A G)) (j number : ℕ) (own : List (Entry A G)) (joined : List (Ended A G)) (born : List ℕ) (seen : List (Entry A G))
-      → length log ≤ 2 ^ 62 → ((n : ℕ) → seats ≤ n → under n log ≡ []) → ((n : ℕ) → 0 < n → n < seats → parent n < n)
-      → Numbers seats owner parent log j [] (ended number own ∷ joined) born → IsPrefix seen log → Each (λ e. under e.number seen ≡ e.own) (ended number own ∷ joined)
+      → ((n : ℕ) → seats ≤ n → entries_of n log ≡ []) → ((n : ℕ) → 0 < n → n < seats → parent n < n)
+      → Numbers seats owner parent log j [] (ended number own ∷ joined) born → AllByRecursion (Contains log) seen → AllByRecursion (λ e. entries_of e.number seen ≡ e.own) (ended number own ∷ joined)
       → IsWhole number seen own joined born
-  whole_from seats owner parent log j number own joined born seen few fresh older k front are = record {
-    short = omega (arith, length-append seen front.0, ap length front.1);
+  whole_from seats owner parent log j number own joined born seen fresh older k inside are = record {
     own_is = are.0;
     joined_are = all_from_each _ joined are.1;
-    different = distinct_from_apart (numbers_of number joined) k.different;
-    all_known = λ zeroth every. let ns : List ℕ = numbers_of number joined in
-        let all = every_entry seats owner parent log j (ended number own ∷ joined) born k older (has_from_contains ns 0 zeroth)
-        (each_weaker _ _ (λ n c. has_from_contains ns n c) born (each_from_all _ born every)) fresh in
-        all_from_each _ seen (each_weaker _ _ (λ e h. contains_from_has ns e.number h) seen (each_front _ seen log front all));
+    different = k.different;
+    all_known = λ each. let ns : List ℕ = numbers_of number joined in
+        let all = every_entry seats owner parent log j (ended number own ∷ joined) born k older each.0 (each_from_all (Contains ns) born each.1) fresh in
+        all_from_each (λ e. Contains ns e.seat) seen (each_weaker _ _ (λ e c. each_in (λ d. Contains ns d.seat) log e all c) seen inside);
   }
 
 module _ {O X A G : Type 0} (stands : O → X → List (A × G) → Type 0) (start : X) where
@@ -88,20 +80,20 @@ module _ {O X A G : Type 0} (stands : O → X → List (A × G) → Type 0) (sta
   abbrev K : Board O A G → ℕ → V → Type 0
   K = Knows start
 
-  pub at_stage : (v : V) (st : Stage A G) → v.stage ≡ st → v ≡ staged v st
-  at_stage v st e = ap (λ (z : Stage A G). staged v z) e
+  pub at_stage : (v : V) (st : Stage A G) → v.stage ≡ st → v ≡ with_stage v st
+  at_stage v st e = ap (λ (z : Stage A G). with_stage v z) e
 
-  -- the numbers of a live view that has drawn none
-  pub numbers_at : (b : Board O A G) (j : ℕ) (v : V) (st : Stage A G) → v.stage ≡ st → v.live ≡ true → K b j v
-      → Numbers b.seats b.owner b.parent b.log j (drawn_of st) (map (λ n. ended n []) (drawn_of st) ++ (ended v.number v.own ∷ v.ended)) v.born
-  numbers_at b j v st e alive k = subst (λ (z : Stage A G × Bool). Numbers b.seats b.owner b.parent b.log j (drawn_of z.0) (map (λ n. ended n []) (drawn_of z.0) ++ cond z.1 (ended v.number v.own ∷ v.ended) []) v.born)
+  -- the numbers of a live view
+  pub numbers_at : (b : Board O A G) (j : ℕ) (v : V) (ds : List ℕ) → v.drawn ≡ ds → v.live ≡ true → K b j v
+      → Numbers b.seats b.owner b.parent b.log j ds (map (λ n. ended n []) ds ++ (ended v.number v.own ∷ v.ended)) v.born
+  numbers_at b j v ds e alive k = subst (λ (z : List ℕ × Bool). Numbers b.seats b.owner b.parent b.log j z.0 (map (λ n. ended n []) z.0 ++ cond z.1 (ended v.number v.own ∷ v.ended) []) v.born)
       (λ i. (e i, alive i)) k.numbers
 
-  pub numbers_back : (b : Board O A G) (j : ℕ) (w : V) → w.live ≡ true
-      → Numbers b.seats b.owner b.parent b.log j (drawn_of w.stage) (map (λ n. ended n []) (drawn_of w.stage) ++ (ended w.number w.own ∷ w.ended)) w.born
-      → Numbers b.seats b.owner b.parent b.log j (drawn_of w.stage) (parts_of w) w.born
-  numbers_back b j w alive n = subst (λ (z : Bool). Numbers b.seats b.owner b.parent b.log j (drawn_of w.stage) (map (λ n. ended n []) (drawn_of w.stage) ++ cond z (ended w.number w.own ∷ w.ended) []) w.born)
-      (sym alive) n
+  pub numbers_back : (b : Board O A G) (j : ℕ) (w : V) (ds : List ℕ) → w.drawn ≡ ds → w.live ≡ true
+      → Numbers b.seats b.owner b.parent b.log j ds (map (λ n. ended n []) ds ++ (ended w.number w.own ∷ w.ended)) w.born
+      → Numbers b.seats b.owner b.parent b.log j w.drawn (parts_of w) w.born
+  numbers_back b j w ds e alive n = subst (λ (z : List ℕ × Bool). Numbers b.seats b.owner b.parent b.log j z.0 (map (λ n. ended n []) z.0 ++ cond z.1 (ended w.number w.own ∷ w.ended) []) w.born)
+      (λ i. (sym e i, sym alive i)) n
 
   pub served : (b : Board O A G) (p : Phase O) → ObjectFits stands start b p → (c : ℕ) → p ≡ out c → b.serving < b.ticket
   served b (home o) f c e = cc
@@ -134,8 +126,8 @@ module _ {O X A G : Type 0} (stands : O → X → List (A × G) → Type 0) (sta
     object_drawn new more (home o) f = f
     object_drawn new more (out c) f = (omega (arith, f.0), f.1)
 
-    ticket_drawn : (cs : List (ℕ × O)) (x new : ℕ) → v.stage ≡ Idle → x ≡ b.ticket → new ≡ b.ticket + 1 → b.ticket < 2 ^ 62 → Rule (stepped s 0 new id cs (staged v (Waiting x)) keeps)
-    ticket_drawn cs x new idle is more room = let w : V = staged v (Waiting x) in let k : K b id (staged v Idle) = subst (K b id) (at_stage v Idle idle) (r.each_view id v at) in
+    ticket_drawn : (cs : List (ℕ × O)) (x new : ℕ) → v.stage ≡ Idle → x ≡ b.ticket → new ≡ b.ticket + 1 → b.ticket < 2 ^ 62 → Rule (stepped s 0 new id cs (with_stage v (Waiting x)) keeps)
+    ticket_drawn cs x new idle is more room = let w : V = with_stage v (Waiting x) in let k : K b id (with_stage v Idle) = subst (K b id) (at_stage v Idle idle) (r.each_view id v at) in
         let b' : Board O A G = with_ticket b new id in let out_is = served b b.phase r.object in let turn : b.serving ≤ b.ticket = r.in_turn in record {
           board = b';
           words = ap (λ (ws : List ℕ). set ws 0 new) r.words;
@@ -170,9 +162,9 @@ module _ {O X A G : Type 0} (stands : O → X → List (A × G) → Type 0) (sta
         }
 
   pub draws : (slots id : ℕ) (me : M) (old new : ℕ) → me.0.stage ≡ Idle → new ≡ old + 1 → old < 2 ^ 62
-      → Allows Rule slots id me 0 (λ x. either (eqb x old) new x) (draws_ticket (step slots 0 old new none) me)
+      → Allows Rule slots id me 0 (λ x. either (eqb x old) new x) (DrawsTicket (step slots 0 old new none) me)
   draws slots id me old new idle more room s r _ at _ = let x : ℕ = get_or s.words 0 0 in let is : x ≡ r.board.ticket = ap (λ (ws : List ℕ). get_or ws 0 0) r.words in dite (ℕ_discrete x old)
-      (λ hit. let w : V = staged me.0 (Waiting x) in (
+      (λ hit. let w : V = with_stage me.0 (Waiting x) in (
         w,
         keeps,
         tt,
@@ -193,8 +185,8 @@ module _ {O X A G : Type 0} (stands : O → X → List (A × G) → Type 0) (sta
 
     -- the seat that is served takes the object
     object_taken : (cs : List (ℕ × O)) (t : ℕ) (o : O) → v.stage ≡ Waiting t → t ≡ bd.serving → bd.phase ≡ home o
-        → Rule (stepped s 1 (get_or s.words 1 0) id cs (staged v (Holding t bd.log 0)) (takes 0 o))
-    object_taken cs t o waits is there = let w : V = staged v (Holding t bd.log 0) in let k : K bd id (staged v (Waiting t)) = subst (K bd id) (at_stage v (Waiting t) waits) (r.each_view id v at) in
+        → Rule (stepped s 1 (get_or s.words 1 0) id cs (with_stage v (Holding t bd.log 0)) (takes 0 o))
+    object_taken cs t o waits is there = let w : V = with_stage v (Holding t bd.log 0) in let k : K bd id (with_stage v (Waiting t)) = subst (K bd id) (at_stage v (Waiting t) waits) (r.each_view id v at) in
         let f = k.tickets.stage in let b' : Board O A G = with_phase bd (out 0) in let mine : bd.whose bd.serving ≡ id = ap bd.whose (sym is) ∙ f.2 in let none_yet : commits_of bd.phase ≡ 0 = ap commits_of there in record {
           board = b';
           words = set-get_or s.words 1 0 ∙ r.words;
@@ -228,27 +220,27 @@ module _ {O X A G : Type 0} (stands : O → X → List (A × G) → Type 0) (sta
 
     -- what a look at the ticket that is served tells the seat that has it
     abbrev pub Took : List (ℕ × O) → ℕ → M → Type 0
-    Took cs t me = (o : O) × (l : List (Entry A G)) × (me ≡ (staged v (Holding t l 0), (0, o) ∷ cs)) × stands o v.start (pairs_of l) × IsPrefix v.seen l
+    Took cs t me = (o : O) × (l : List (Entry A G)) × (me ≡ (with_stage v (Holding t l 0), (0, o) ∷ cs)) × stands o v.start (pairs_of l) × IsPrefix v.seen l
 
     abbrev pub Taken : List (ℕ × O) → ℕ → Type 0
     Taken cs t = (w : V) × (a : Act O) × Valid s.homes cs a × Rule (stepped s 1 (get_or s.words 1 0) id cs w a) × Took cs t (w, carried_after cs a)
 
     take_at : (cs : List (ℕ × O)) (t : ℕ) → v.stage ≡ Waiting t → t ≡ bd.serving → v.live ≡ true → (p : Phase O) → bd.phase ≡ p → Taken cs t
     take_at cs t waits is alive (home o) there = let k = r.each_view id v at in (
-      staged v (Holding t bd.log 0),
+      with_stage v (Holding t bd.log 0),
       takes 0 o,
       ap (λ (hs : List (Option O)). get_elem? hs 0) (r.homes ∙ ap homes_of there),
       object_taken cs t o waits is there,
       (o, bd.log, refl, subst (λ (x : X). stands o x (pairs_of bd.log)) (sym (k.starts alive)) (subst (ObjectFits stands start bd) there r.object), k.seen),
     )
-    take_at cs t waits is alive (out c) there = let k : K bd id (staged v (Waiting t)) = subst (K bd id) (at_stage v (Waiting t) waits) (r.each_view id v at) in let f = k.tickets.stage in
+    take_at cs t waits is alive (out c) there = let k : K bd id (with_stage v (Waiting t)) = subst (K bd id) (at_stage v (Waiting t) waits) (r.each_view id v at) in let f = k.tickets.stage in
         let holds = subst (λ (p : Phase O). HolderFits bd id p (Waiting t)) there k.tickets.holder in
         absurd (waiting_or_holding t bd.serving c bd.log (Waiting t) refl (holds (ap bd.whose (sym is) ∙ f.2)))
 
     pub take_now : (cs : List (ℕ × O)) (t : ℕ) → v.stage ≡ Waiting t → t ≡ bd.serving → v.live ≡ true → Taken cs t
     take_now cs t waits is alive = take_at cs t waits is alive bd.phase refl
 
-  pub takes_it : (slots id : ℕ) (me : M) (t : ℕ) → me.0.stage ≡ Waiting t → me.0.live ≡ true → Allows Rule slots id me 1 (λ x. x) (takes_object stands (step slots 1 0 0 none) me)
+  pub takes_it : (slots id : ℕ) (me : M) (t : ℕ) → me.0.stage ≡ Waiting t → me.0.live ≡ true → Allows Rule slots id me 1 (λ x. x) (TakesObject stands (step slots 1 0 0 none) me)
   takes_it slots id me t waits alive s r _ at _ = let x : ℕ = get_or s.words 1 0 in let is : x ≡ r.board.serving = ap (λ (ws : List ℕ). get_or ws 1 0) r.words in dite (ℕ_discrete x t)
       (λ hit. let got = take_now s r id me.0 at me.1 t waits (sym hit ∙ is) alive in (
         got.0,
@@ -276,15 +268,15 @@ module _ {O X A G : Type 0} (stands : O → X → List (A × G) → Type 0) (sta
     abbrev longer_log : A → G → List (Entry A G)
     longer_log ask got = bc.log ++ entry v.number ask got ∷ []
 
-    fresh_logged : (ask : A) (got : G) → Numbers bc.seats bc.owner bc.parent bc.log id [] (ended v.number v.own ∷ v.ended) v.born → (n : ℕ) → bc.seats ≤ n → under n (longer_log ask got) ≡ []
-    fresh_logged ask got k n high = let f = k.each.0 in under-other n bc.log v.number ask got (λ e. omega (arith, f.1)) ∙ r.fresh n high
+    fresh_logged : (ask : A) (got : G) → Numbers bc.seats bc.owner bc.parent bc.log id [] (ended v.number v.own ∷ v.ended) v.born → (n : ℕ) → bc.seats ≤ n → entries_of n (longer_log ask got) ≡ []
+    fresh_logged ask got k n high = let f = k.each.0 in entries_of-other n bc.log v.number ask got (λ e. omega (arith, f.1)) ∙ r.fresh n high
 
-    call_committed : (cs : List (ℕ × O)) (t : ℕ) (ask : A) (got : G) → v.stage ≡ Holding t bc.log 0 → v.live ≡ true → bc.phase ≡ out 0
+    call_committed : (cs : List (ℕ × O)) (t : ℕ) (ask : A) (got : G) → v.stage ≡ Holding t bc.log 0 → v.drawn ≡ [] → v.live ≡ true → bc.phase ≡ out 0
         → Rule (stepped s 2 (bc.count + 1) id cs (committed_view v t bc.log ask got) keeps) × IsWholeView (committed_view v t bc.log ask got)
-    call_committed cs t ask got holds alive there = let log' : List (Entry A G) = longer_log ask got in let w : V = committed_view v t bc.log ask got in
-        let before = r.each_view id v at in let k : K bc id (staged v (Holding t bc.log 0)) = subst (K bc id) (at_stage v (Holding t bc.log 0) holds) before in
+    call_committed cs t ask got holds undrawn alive there = let log' : List (Entry A G) = longer_log ask got in let w : V = committed_view v t bc.log ask got in
+        let before = r.each_view id v at in let k : K bc id (with_stage v (Holding t bc.log 0)) = subst (K bc id) (at_stage v (Holding t bc.log 0) holds) before in
         let f = k.tickets.stage in let b' : Board O A G = with_entry bc (bc.count + 1) log' 1 in let mine : bc.whose bc.serving ≡ id = ap bc.whose (sym f.0) ∙ f.2 in
-        let n = numbers_at bc id v (Holding t bc.log 0) holds alive before in
+        let n = numbers_at bc id v [] undrawn alive before in
         let n' = numbers_logging bc.seats bc.owner bc.parent bc.log id v.number v.own v.ended v.born ask got n in
         let few : bc.count ≤ bc.serving = omega (arith, r.few, ap commits_of there) in
         let long : length log' ≡ bc.count + 1 = omega (arith, length-append bc.log (entry v.number ask got ∷ []), r.counted) in
@@ -306,29 +298,32 @@ module _ {O X A G : Type 0} (stands : O → X → List (A × G) → Type 0) (sta
                   seen = prefix_refl log';
                   met = prefix_more v.met bc.log (entry v.number ask got ∷ []) k.met;
                   tickets = tickets_logging bc id mine (bc.count + 1) log' t 0 bc.log k.tickets;
-                  numbers = numbers_back b' id w alive n';
+                  numbers = numbers_back b' id w [] undrawn alive n';
                   starts = k.starts;
                 }
                 (λ j u ne here. let h = r.each_view j u here in record {
                   seen = prefix_more u.seen bc.log (entry v.number ask got ∷ []) h.seen;
                   met = prefix_more u.met bc.log (entry v.number ask got ∷ []) h.met;
                   tickets = tickets_logged bc id mine (bc.count + 1) log' j u.stage ne h.tickets;
-                  numbers = numbers_logged bc.seats bc.owner bc.parent bc.log j (drawn_of u.stage) (parts_of u) u.born v.number ask got (λ e. ne (sym e ∙ owned)) h.numbers;
+                  numbers = numbers_logged bc.seats bc.owner bc.parent bc.log j u.drawn (parts_of u) u.born v.number ask got (λ e. ne (sym e ∙ owned)) h.numbers;
                   starts = h.starts;
                 });
             holders = λ u low high. still_there s id w (bc.whose u) (r.holders u low high);
             owners = λ m high. still_there s id w (bc.owner m) (r.owners m high);
           },
-          whole_from bc.seats bc.owner bc.parent log' id v.number (v.own ++ entry v.number ask got ∷ []) v.ended v.born log'
-              (omega (arith, r.tickets_left, few, f.0, f.1)) fresh' r.older n' (prefix_refl log') (each_weaker _ _ (λ e h. h.2) (ended v.number (v.own ++ entry v.number ask got ∷ []) ∷ v.ended) n'.each),
+          (
+            whole_from bc.seats bc.owner bc.parent log' id v.number (v.own ++ entry v.number ask got ∷ []) v.ended v.born log'
+                fresh' r.older n' (prefix_inside log' log' (prefix_refl log')) (each_weaker _ _ (λ e h. h.2) (ended v.number (v.own ++ entry v.number ask got ∷ []) ∷ v.ended) n'.each),
+            omega (arith, r.tickets_left, few, long, r.counted, f.0, f.1),
+          ),
         )
 
-  pub commits_call : (slots id : ℕ) (me : M) (t : ℕ) (l : List (Entry A G)) (ask : A) (got : G) (calls : List (A × G)) → me.0.stage ≡ Holding t l 0 → me.0.live ≡ true → calls ≡ (ask, got) ∷ []
-      → Allows Rule slots id me 2 (λ x. (x + 1) % 2 ^ 64) (commits calls (step slots 2 1 0 none) me)
-  commits_call slots id me t l ask got calls holds alive one s r _ at _ = let b = r.board in let v : V = me.0 in let x : ℕ = get_or s.words 2 0 in let is : x ≡ b.count = ap (λ (ws : List ℕ). get_or ws 2 0) r.words in
-      let k : K b id (staged v (Holding t l 0)) = subst (K b id) (at_stage v (Holding t l 0) holds) (r.each_view id v at) in let f = k.tickets.stage in
+  pub commits_call : (slots id : ℕ) (me : M) (t : ℕ) (l : List (Entry A G)) (ask : A) (got : G) (calls : List (A × G)) → me.0.stage ≡ Holding t l 0 → me.0.drawn ≡ [] → me.0.live ≡ true → calls ≡ (ask, got) ∷ []
+      → Allows Rule slots id me 2 (λ x. (x + 1) % 2 ^ 64) (Commits calls (step slots 2 1 0 none) me)
+  commits_call slots id me t l ask got calls holds undrawn alive one s r _ at _ = let b = r.board in let v : V = me.0 in let x : ℕ = get_or s.words 2 0 in let is : x ≡ b.count = ap (λ (ws : List ℕ). get_or ws 2 0) r.words in
+      let k : K b id (with_stage v (Holding t l 0)) = subst (K b id) (at_stage v (Holding t l 0) holds) (r.each_view id v at) in let f = k.tickets.stage in
       let same : l ≡ b.log = f.4 in let here : v.stage ≡ Holding t b.log 0 = holds ∙ ap (λ (z : List (Entry A G)). Holding t z 0) same in
-      let made = call_committed s r id v at me.1 t ask got here alive f.3 in
+      let made = call_committed s r id v at me.1 t ask got here undrawn alive f.3 in
       let next : (x + 1) % 2 ^ 64 ≡ b.count + 1 = omega (arith, short_log s r, r.counted) in (
         committed_view v t b.log ask got,
         keeps,
@@ -343,8 +338,8 @@ module _ {O X A G : Type 0} (stands : O → X → List (A × G) → Type 0) (sta
     bp = r.board
 
     turn_passed : (t c : ℕ) (o : O) → v.stage ≡ Holding t bp.log c → bp.phase ≡ out c → stands o start (pairs_of bp.log)
-        → Rule (stepped s 1 (bp.serving + 1) id ((0, o) ∷ []) (staged v Idle) gives)
-    turn_passed t c o holds there stood = let w : V = staged v Idle in let k : K bp id (staged v (Holding t bp.log c)) = subst (K bp id) (at_stage v (Holding t bp.log c) holds) (r.each_view id v at) in
+        → Rule (stepped s 1 (bp.serving + 1) id ((0, o) ∷ []) (with_stage v Idle) gives)
+    turn_passed t c o holds there stood = let w : V = with_stage v Idle in let k : K bp id (with_stage v (Holding t bp.log c)) = subst (K bp id) (at_stage v (Holding t bp.log c) holds) (r.each_view id v at) in
         let f = k.tickets.stage in let b' : Board O A G = with_next bp (bp.serving + 1) o in let mine : bp.whose bp.serving ≡ id = ap bp.whose (sym f.0) ∙ f.2 in
         let once = subst (ObjectFits stands start bp) there r.object in record {
           board = b';
@@ -378,15 +373,15 @@ module _ {O X A G : Type 0} (stands : O → X → List (A × G) → Type 0) (sta
         }
 
   pub passes_turn : (slots id : ℕ) (me : M) (t c : ℕ) (l : List (Entry A G)) (o : O) → me.0.stage ≡ Holding t l c → me.0.live ≡ true → me.1 ≡ (0, o) ∷ [] → stands o me.0.start (pairs_of l)
-      → Allows Rule slots id me 1 (λ x. (x + 1) % 2 ^ 64) (λ found me'. passes (step slots 1 1 0 none) me found me')
+      → Allows Rule slots id me 1 (λ x. (x + 1) % 2 ^ 64) (λ found me'. Passes (step slots 1 1 0 none) me found me')
   passes_turn slots id me t c l o holds alive carries stood s r _ at _ = let b = r.board in let v : V = me.0 in let x : ℕ = get_or s.words 1 0 in let is : x ≡ b.serving = ap (λ (ws : List ℕ). get_or ws 1 0) r.words in
-      let k : K b id (staged v (Holding t l c)) = subst (K b id) (at_stage v (Holding t l c) holds) (r.each_view id v at) in let f = k.tickets.stage in
+      let k : K b id (with_stage v (Holding t l c)) = subst (K b id) (at_stage v (Holding t l c) holds) (r.each_view id v at) in let f = k.tickets.stage in
       let same : l ≡ b.log = f.4 in let here : v.stage ≡ Holding t b.log c = holds ∙ ap (λ (z : List (Entry A G)). Holding t z c) same in
       let stood' : stands o start (pairs_of b.log) = subst (λ (z : X × List (Entry A G)). stands o z.0 (pairs_of z.1)) (λ i. (k.starts alive i, same i)) stood in
       let next : (x + 1) % 2 ^ 64 ≡ b.serving + 1 = omega (arith, r.in_turn, r.tickets_left) in (
-        staged v Idle,
+        with_stage v Idle,
         gives,
         tt,
-        subst (λ (z : List (ℕ × O) × ℕ). Rule (stepped s 1 z.1 id z.0 (staged v Idle) gives)) (λ i. (sym carries i, sym next i)) (turn_passed s r id v at t c o here f.3 stood'),
-        (λ i. (staged v Idle, rest (carries i))),
+        subst (λ (z : List (ℕ × O) × ℕ). Rule (stepped s 1 z.1 id z.0 (with_stage v Idle) gives)) (λ i. (sym carries i, sym next i)) (turn_passed s r id v at t c o here f.3 stood'),
+        (λ i. (with_stage v Idle, rest (carries i))),
       )

@@ -1,24 +1,26 @@
--- The rule of a turn's table, which each atomic step keeps.
--- The words are the next ticket, the ticket that is served, the number of entries in the history, and the next number of a seat.
--- The one slot holds the object.
-use Rattle.std.specs.Prelude.{◌≡◌, ◌≢◌, ◌⊎◌, ℕ, ◌+◌, ◌<◌, ◌≤◌, ◌^◌, true, cond, List, [], ◌∷◌, ◌++◌, map, length}
+-- The invariant of a turn's table, `Ordered`, which each atomic step keeps. The words are the next ticket, the ticket that is
+-- served, the length of the history, and the next number for a seat. The one slot holds the object.
+-- A view is what one seat knows, and j, id and other are places in the table's list of views.
+use Rattle.std.specs.Prelude.{◌≡◌, ◌≢◌, ℕ, ◌+◌, ◌<◌, ◌≤◌, ◌^◌, true, cond, List, [], ◌∷◌, ◌++◌, map, length, nat_eq}
+use Rattle.std.specs.List.{AllByRecursion, Contains, IsDistinct}
 use mathlib.Core.Option.{Option, some, none}
 use mathlib.Core.List.{IsPrefix}
 use lib.ListN.{get_elem?}
 use Rattle.atomic_table.specs.Table.{State}
-use Rattle.ig_turn.specs.declared.view.Entry.{Entry}
+use Rattle.ig_base.specs.declared.entry.Entry.{Entry}
 use Rattle.ig_turn.specs.declared.view.Ended.{Ended}
 use Rattle.ig_turn.specs.declared.view.Stage.{Stage}
-use Rattle.ig_turn.specs.declared.view.Stage.TheVariants.{Idle, Waiting, Holding, Drawn}
+use Rattle.ig_turn.specs.declared.view.Stage.TheVariants.{Idle, Waiting, Holding}
 use Rattle.ig_turn.specs.declared.view.View.{View}
-use Rattle.ig_turn.specs.History.{pairs_of, under, ended}
+use Rattle.ig_turn.specs.History.{pairs_of, entries_of, ended}
 
--- where the object is: in its slot, or out with the seat that is served, which has committed so many times in this turn
+-- where the object is: in its slot, or out with the seat that is served, which has committed that many times since it took it
 pub data Phase (O : Type 0) : Type 0 where
   home : O → Phase O
   out : ℕ → Phase O
 
--- whose ticket it is, by the ticket; which view has a number; and which number drew a number
+-- The words, the history and where the object is. By each ticket, which view has it; by each number, which view has it and
+-- under which number it was drawn
 pub record Board (O A G : Type 0) : Type 0 where
   pub ticket : ℕ
   pub serving : ℕ
@@ -30,21 +32,6 @@ pub record Board (O A G : Type 0) : Type 0 where
   pub owner : ℕ → ℕ
   pub parent : ℕ → ℕ
 
--- n is one of them
-abbrev pub Has : List ℕ → ℕ → Type 0
-Has [] n = ⊥
-Has (m ∷ ms) n = (m ≡ n) ⊎ Has ms n
-
--- no two of them are equal
-abbrev pub Apart : List ℕ → Type 0
-Apart [] = Unit {0}
-Apart (m ∷ ms) = (Has ms m → ⊥) × Apart ms
-
--- P holds of each
-abbrev pub Each : {T : Type 0} → (T → Type 0) → List T → Type 0
-Each P [] = Unit {0}
-Each P (x ∷ xs) = P x × Each P xs
-
 abbrev pub homes_of : {O : Type 0} → Phase O → List (Option O)
 homes_of (home o) = some o ∷ []
 homes_of (out c) = none ∷ []
@@ -54,11 +41,6 @@ commits_of (home o) = 0
 commits_of (out c) = c
 
 module _ {A G : Type 0} where
-  -- the number that was drawn for a new seat, if one was
-  abbrev pub drawn_of : Stage A G → List ℕ
-  drawn_of (Drawn n) = n ∷ []
-  drawn_of _ = []
-
   abbrev pub number_of : Ended A G → ℕ
   number_of e = e.number
 
@@ -67,19 +49,21 @@ module _ {A G : Type 0} where
   HasTicket t (Holding u l c) = u ≡ t
   HasTicket t _ = ⊥
 
-  -- what the view j has to do with numbers
+  -- What holds of the view j and the numbers of seats. `parts` are its numbers with their entries: they are exactly the
+  -- numbers that are the view's, all different, each with the entries that the history has of it. Each number that was drawn
+  -- under one of them is in `born`, and none was drawn under a number that no seat has yet
   pub record Numbers (seats : ℕ) (owner parent : ℕ → ℕ) (log : List (Entry A G)) (j : ℕ) (drawn : List ℕ) (parts : List (Ended A G)) (born : List ℕ) : Type 0 where
-    pub each : Each (λ e. (owner e.number ≡ j) × (e.number < seats) × (under e.number log ≡ e.own)) parts
-    pub different : Apart (map number_of parts)
-    pub has : (n : ℕ) → n < seats → owner n ≡ j → Has (map number_of parts) n
-    pub kin : (n : ℕ) → 0 < n → n < seats → owner (parent n) ≡ j → Has born n
-    pub below : Each (λ n. n < seats) born
-    pub childless : Each (λ d. (owner d ≡ j) × ((n : ℕ) → 0 < n → n < seats → parent n ≢ d)) drawn
+    pub each : AllByRecursion (λ e. (owner e.number ≡ j) × (e.number < seats) × (entries_of e.number log ≡ e.own)) parts
+    pub different : IsDistinct nat_eq (map number_of parts)
+    pub has : (n : ℕ) → n < seats → owner n ≡ j → Contains (map number_of parts) n
+    pub kin : (n : ℕ) → 0 < n → n < seats → owner (parent n) ≡ j → Contains born n
+    pub below : AllByRecursion (λ n. n < seats) born
+    pub childless : AllByRecursion (λ d. (owner d ≡ j) × ((n : ℕ) → 0 < n → n < seats → parent n ≢ d)) drawn
 
 module _ {X A G : Type 0} where
-  -- a view's numbers, each with the entries under it: one that was drawn, its own, and those that were joined
+  -- a view's numbers, each with its entries: one that was drawn, the seat's own, and those of the seats that were joined
   abbrev pub parts_of : View X A G → List (Ended A G)
-  parts_of v = map (λ n. ended n []) (drawn_of v.stage) ++ cond v.live (ended v.number v.own ∷ v.ended) []
+  parts_of v = map (λ n. ended n []) v.drawn ++ cond v.live (ended v.number v.own ∷ v.ended) []
 
 module _ {O A G : Type 0} where
   abbrev pub words_of : Board O A G → List ℕ
@@ -89,14 +73,13 @@ module _ {O A G : Type 0} where
   StageFits b j Idle = Unit {0}
   StageFits b j (Waiting t) = (b.serving ≤ t) × (t < b.ticket) × (b.whose t ≡ j)
   StageFits b j (Holding t l c) = (t ≡ b.serving) × (t < b.ticket) × (b.whose t ≡ j) × (b.phase ≡ out c) × (l ≡ b.log)
-  StageFits b j (Drawn n) = Unit {0}
 
-  -- the one that is served has the object where it is out
+  -- the view that is served holds the object where it is out
   abbrev pub HolderFits : Board O A G → ℕ → Phase O → Stage A G → Type 0
   HolderFits b j (home o) st = Unit {0}
   HolderFits b j (out c) st = b.whose b.serving ≡ j → st ≡ Holding b.serving b.log c
 
-  -- what the view j has to do with tickets
+  -- what holds of the view j and the tickets: each ticket from the one served up that is its own it knows of
   pub record Tickets (b : Board O A G) (j : ℕ) (st : Stage A G) : Type 0 where
     pub stage : StageFits b j st
     pub turn : (t : ℕ) → b.serving ≤ t → t < b.ticket → b.whose t ≡ j → HasTicket t st
@@ -107,7 +90,7 @@ module _ {O X A G : Type 0} where
     pub seen : IsPrefix v.seen b.log
     pub met : IsPrefix v.met b.log
     pub tickets : Tickets b j v.stage
-    pub numbers : Numbers b.seats b.owner b.parent b.log j (drawn_of v.stage) (parts_of v) v.born
+    pub numbers : Numbers b.seats b.owner b.parent b.log j v.drawn (parts_of v) v.born
     pub starts : v.live ≡ true → v.start ≡ start
 
   module _ (stands : O → X → List (A × G) → Type 0) where
@@ -125,7 +108,7 @@ module _ {O X A G : Type 0} where
       pub in_turn : board.serving ≤ board.ticket
       pub tickets_left : board.ticket ≤ 2 ^ 62
       pub numbers_left : (0 < board.seats) × (board.seats ≤ 2 ^ 62)
-      pub fresh : (n : ℕ) → board.seats ≤ n → under n board.log ≡ []
+      pub fresh : (n : ℕ) → board.seats ≤ n → entries_of n board.log ≡ []
       pub older : (n : ℕ) → 0 < n → n < board.seats → board.parent n < n
       pub each_view : (j : ℕ) (v : View X A G) → get_elem? s.views j ≡ some v → Knows start board j v
       pub holders : (t : ℕ) → board.serving ≤ t → t < board.ticket → board.whose t < length s.views
