@@ -130,6 +130,7 @@ module _ (old new : Script) (buf : List ℕ) where
         };
         was_open = not_ended steps (reads.Bytes bytes) e step.settled;
         is_open = step.counts.1;
+        counts = step.counts.0;
       }
 
   read_end : (s : List ReadStep) → behind_empty old.reads ≡ s → ReadStepsTo s took.End new.reads buf → ReadsStep took.End old new buf → ReadEnd (script_source old) (script_source new)
@@ -145,6 +146,7 @@ module _ (old new : Script) (buf : List ℕ) where
         };
         ended = step.counts.1;
         whole = λ h. ap Some none;
+        counts = step.counts.0;
       }
   read_end (reads.Fault ∷ steps) e to step = let wrong = to.0 in cc
   read_end (reads.Bytes bytes ∷ steps) e to step = let wrong = to.0 in cc

@@ -111,6 +111,8 @@ pub record ReadsStep (answer : Take) (old new : Script) (buf : List ℕ) : Type 
   pub settled : old.ended ≡ true → old.reads ≡ []
   pub in_range : old.read_faults < 2 ^ 64
   pub same : script_sink new ≡ script_sink old
+  pub writes : new.writes ≡ old.writes
+  pub room : new.room ≡ old.room
 
 -- the faults after a write
 abbrev pub WriteCounts : Gave → Script → Script → Type 0
@@ -126,6 +128,8 @@ pub record WritesStep (answer : Gave) (old new : Script) (piece : List ℕ) : Ty
   pub counts : WriteCounts answer old new
   pub in_range : old.write_faults < 2 ^ 64
   pub same : script_source new ≡ script_source old
+  pub reads : new.reads ≡ old.reads
+  pub room : new.room ≡ old.room
 
 -- a link of which nothing has been taken and to which nothing has been written
 abbrev pub first_script : ℕ → List ReadStep → List WriteStep → Script

@@ -77,4 +77,6 @@ returns-in-Some-Bytes c =
       settled = λ ended. absurd (open_before ended);
       in_range = search rules;
       same = refl;
+      writes = refl;
+      room = refl;
     }
