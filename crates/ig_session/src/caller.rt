@@ -14,6 +14,15 @@ pub trait Caller {
     /// The number that its entries have.
     ghost seat: { Self → ℕ };
 
+    /// The ghost names of the `&mut` references that it holds. A caller over a borrowed seat names that
+    /// reference here, so that the seat is known again when the borrow ends.
+    ghost lent: { Self → List ℕ };
+
+    /// What else a call leaves unchanged, as one value of the caller's own choice.
+    ghost Kept: { Type 0 };
+
+    ghost kept: { Self → Self.Kept };
+
     /// For which caches at the start and which entries of its own it stands.
     ghost stands: { Self → Plain → List Entry → Type 0 };
 
@@ -25,7 +34,9 @@ pub trait Caller {
         ensures fits { IfOk result (λ answer. FitsOutcome call answer.outcome) }
         ensures err { OnErr result (StandsOn stands self.old self.new []) }
         ensures back { IfErr result (λ e. e.back ≡ call) }
-        ensures seat { seat self.new ≡ seat self.old };
+        ensures seat { seat self.new ≡ seat self.old }
+        ensures lent { lent self.new ≡ lent self.old }
+        ensures kept { kept self.new ≡ kept self.old };
 }
 
 /// A caller over an object of its own, which keeps no history. Its entries are under the number 0.
@@ -47,9 +58,16 @@ impl<E: Exec> Alone<E> {
 }
 
 impl<E: Exec> Caller for Alone<E> {
+    ghost use Rattle.std.specs.Prelude.{[]};
     ghost use Rattle.ig_session.specs.Standing.{StandsAlone};
 
     ghost seat = { λ _. 0 };
+
+    ghost lent = { λ _. [] };
+
+    ghost Kept = { Unit {0} };
+
+    ghost kept = { λ _. tt };
 
     ghost stands = { StandsAlone E.caches };
 

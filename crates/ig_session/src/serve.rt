@@ -68,6 +68,8 @@ fn answer_all<C: Caller, K: Sink>(
     ensures answers { AnswersAll C.stands (C.seat caller.old) caller.old caller.new session.old session.new
         (K.sink sink.old) (K.sink sink.new) taken result }
     ensures seat { C.seat caller.new ≡ C.seat caller.old }
+    ensures lent { C.lent caller.new ≡ C.lent caller.old }
+    ensures kept { C.kept caller.new ≡ C.kept caller.old }
     ensures beside { K.source_beside sink.new ≡ K.source_beside sink.old }
 {
     'frames: loop {
@@ -102,6 +104,8 @@ pub fn serve_ends<C: Caller, S: Source, K: Sink>(
     ensures served { Served C.stands (C.seat caller.old) caller.old caller.new (S.source source.old) (S.source source.new)
         (K.sink sink.old) (K.sink sink.new) result }
     ensures seat { C.seat caller.new ≡ C.seat caller.old }
+    ensures lent { C.lent caller.new ≡ C.lent caller.old }
+    ensures kept { C.kept caller.new ≡ C.kept caller.old }
 {
     let Ok(mut buf) = vec![in alloc; 0u8; PIECE] else {
         return SessionEnd::NoMemory;
@@ -131,6 +135,8 @@ pub fn serve_link<C: Caller, L: Duplex>(
     ensures served { Served C.stands (C.seat caller.old) caller.old caller.new (L.source link.old) (L.source link.new)
         (L.sink link.old) (L.sink link.new) result }
     ensures seat { C.seat caller.new ≡ C.seat caller.old }
+    ensures lent { C.lent caller.new ≡ C.lent caller.old }
+    ensures kept { C.kept caller.new ≡ C.kept caller.old }
 {
     let Ok(mut buf) = vec![in alloc; 0u8; PIECE] else {
         return SessionEnd::NoMemory;

@@ -93,6 +93,8 @@ fn answer_to<C: Caller>(
     requires { IsSoundAsk asked.ask }
     ensures answers { Answers C.stands (C.seat caller.old) caller.old caller.new asked result reply.old reply.new }
     ensures seat { C.seat caller.new ≡ C.seat caller.old }
+    ensures lent { C.lent caller.new ≡ C.lent caller.old }
+    ensures kept { C.kept caller.new ≡ C.kept caller.old }
 {
     let Asked { id, ask } = asked;
     match ask {
@@ -124,6 +126,8 @@ impl Session {
     pub fn advance<C: Caller>(&mut self, alloc: Global, caller: &mut C) -> Result<Step, NoMemory>
         ensures steps { Steps C.stands (C.seat caller.old) caller.old caller.new self.old self.new result }
         ensures seat { C.seat caller.new ≡ C.seat caller.old }
+        ensures lent { C.lent caller.new ≡ C.lent caller.old }
+        ensures kept { C.kept caller.new ≡ C.kept caller.old }
     {
         self.reply.clear();
         let body = match self.frames.look(least_len(self.is_open)) {

@@ -14,6 +14,8 @@ pub frames-init : goal.frames-init
 frames-init g c = record {
   since = since_start g.C.Caller.stands (g.C.Caller.seat c.args.caller.now) c.args.caller.now c.args.session.now (g.K.Sink.sink c.args.sink.now);
   seat = refl;
+  lent = refl;
+  kept = refl;
   beside = refl;
 }
 
@@ -59,6 +61,8 @@ frames-preserved g c =
       since = since_out stands seat c.args.caller.now c.frames.caller c.advance.new.caller c.args.session.now c.frames.session c.advance.new.self c.advance.new.self (g.K.Sink.sink c.args.sink.now) (g.K.Sink.sink c.frames.sink) (g.K.Sink.sink c.send_all.new.sink) since st
           (subst (Gets (g.K.Sink.sink c.frames.sink) (g.K.Sink.sink c.send_all.new.sink)) c.as_slice.ensures c.in-Ok.ensures.ok) refl refl;
       seat = c.advance.ensures.seat ∙ c.frames.invariant.seat;
+      lent = c.advance.ensures.lent ∙ c.frames.invariant.lent;
+      kept = c.advance.ensures.kept ∙ c.frames.invariant.kept;
       beside = c.in-Ok.ensures.beside ∙ c.frames.invariant.beside;
     }
 
