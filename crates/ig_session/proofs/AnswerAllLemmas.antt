@@ -40,11 +40,13 @@ pub record Since {C : Type 0} (stands : C → Plain → List Entry → Type 0) (
   pub out : List ℕ
   pub keeps : StandsOn stands caller caller' (entries_of seat ran)
   pub gets : Gets sink sink' out
+  pub counts : sink'.faults ≡ sink.faults
   pub story : (input output : List ℕ) (results : List Ran) → Stands old input output results → Stands new input (output ++ out) (results ++ ran)
 
 repacked : (old new : Session) (input output : List ℕ) (results : List Ran) → old.frames ≡ new.frames → old.is_open ≡ new.is_open → Stands old input output results → Stands new input output results
 repacked old new input output results fs os s = record {
   bodies = s.bodies;
+  within = s.within;
   begins = subst (λ (l : List ℕ). frames.Begins frames.client input s.bodies l) fs s.begins;
   stage = subst (λ (b : Bool). IsAt b s.bodies) os s.stage;
   handed_out = s.handed_out;
@@ -69,6 +71,7 @@ module _ {C : Type 0} (stands : C → Plain → List Entry → Type 0) (seat : �
     out = [];
     keeps = stands_still stands caller;
     gets = Gets-nothing sink;
+    counts = refl;
     story = λ input output results s. subst (λ (l : List Ran). Stands state input (output ++ []) l) (sym (append-nil results))
         (subst (λ (l : List ℕ). Stands state input l results) (sym (append-nil output)) s);
   }
@@ -89,12 +92,13 @@ module _ {C : Type 0} (stands : C → Plain → List Entry → Type 0) (seat : �
 
   -- a reply was sent whole
   pub since_out : (a b c : C) (first old new after : Session) (s0 s1 s2 : SinkState) → Since stands seat a b first old s0 s1 → Steps stands seat b c old new (Ok steps.Out)
-      → Gets s1 s2 new.reply → after.frames ≡ new.frames → after.is_open ≡ new.is_open → Since stands seat a c first after s0 s2
-  since_out a b c first old new after s0 s1 s2 since st sent same_frames same_open = record {
+      → Gets s1 s2 new.reply → s2.faults ≡ s1.faults → after.frames ≡ new.frames → after.is_open ≡ new.is_open → Since stands seat a c first after s0 s2
+  since_out a b c first old new after s0 s1 s2 since st sent counts same_frames same_open = record {
     ran = since.ran ++ st.ran;
     out = since.out ++ new.reply;
     keeps = all_kept a b c first old new s0 s1 (Ok steps.Out) since st;
     gets = Gets-then since.gets sent;
+    counts = counts ∙ since.counts;
     story = λ input output results s.
         let on = goes_on old new input (output ++ since.out) (results ++ since.ran) st.ran st.step.0 (since.story input output results s) st.step.1 st.step.2 st.step.3 in
         repacked new after input (output ++ (since.out ++ new.reply)) (results ++ (since.ran ++ st.ran)) (sym same_frames) (sym same_open)
@@ -110,7 +114,7 @@ module _ {C : Type 0} (stands : C → Plain → List Entry → Type 0) (seat : �
     out = since.out;
     keeps = none_more a b c first old new s0 s1 (Ok (steps.More missing)) since st st.step.0;
     gets = since.gets;
-    cause = tt;
+    cause = since.counts;
     story = λ input output results counts s.
         let on = repacked old new input (output ++ since.out) (results ++ since.ran) (sym st.step.1) (sym st.step.2) (since.story input output results s) in
         record {
@@ -127,7 +131,7 @@ module _ {C : Type 0} (stands : C → Plain → List Entry → Type 0) (seat : �
     out = since.out;
     keeps = none_more a b c first old new s0 s1 (Ok (steps.Bad len)) since st st.step.0;
     gets = since.gets;
-    cause = tt;
+    cause = since.counts;
     story = λ input output results counts s.
         let on = repacked old new input (output ++ since.out) (results ++ since.ran) (sym st.step.1) (sym st.step.2) (since.story input output results s) in
         let whole = ap length on.begins.whole ∙ length-append (flat_map frames.Frame on.bodies) new.frames in
@@ -139,13 +143,13 @@ module _ {C : Type 0} (stands : C → Plain → List Entry → Type 0) (seat : �
 
   -- the reply to a hello that is refused was sent whole
   pub since_refused : (a b c : C) (first old new after : Session) (s0 s1 s2 : SinkState) (taken : ℕ) (fault : HelloFault) → Since stands seat a b first old s0 s1
-      → Steps stands seat b c old new (Ok (steps.Refused fault)) → Gets s1 s2 new.reply → AnswersAll stands seat a c first after s0 s2 taken (Err (ends.HelloRefused fault))
-  since_refused a b c first old new after s0 s1 s2 taken fault since st sent = record {
+      → Steps stands seat b c old new (Ok (steps.Refused fault)) → Gets s1 s2 new.reply → s2.faults ≡ s1.faults → AnswersAll stands seat a c first after s0 s2 taken (Err (ends.HelloRefused fault))
+  since_refused a b c first old new after s0 s1 s2 taken fault since st sent counts = record {
     ran = since.ran ++ st.ran;
     out = since.out ++ new.reply;
     keeps = all_kept a b c first old new s0 s1 (Ok (steps.Refused fault)) since st;
     gets = Gets-then since.gets sent;
-    cause = tt;
+    cause = counts ∙ since.counts;
     story = λ input output results counts s.
         regrouped input output since.out new.reply results since.ran st.ran (ends.HelloRefused fault)
         (refuses old new input (output ++ since.out) (results ++ since.ran) st.ran st.step.0 fault (since.story input output results s) st.step.1 st.step.2 st.step.3 st.step.4);
@@ -159,7 +163,10 @@ module _ {C : Type 0} (stands : C → Plain → List Entry → Type 0) (seat : �
     out = since.out ++ take sent frame;
     keeps = all_kept a b c first old new s0 s1 result since st;
     gets = Gets-then since.gets fault.gets;
-    cause = (Rose-after s0.faults s1.faults s2.faults since.gets.faults fault.rose, held_not s0.holds s1.holds since.gets.holds fault.holds_not);
+    cause = record {
+      rose = Rose-after s0.faults s1.faults s2.faults since.gets.faults fault.rose;
+      holds_not = held_not s0.holds s1.holds since.gets.holds fault.holds_not;
+    };
     story = λ input output results counts s.
         regrouped input output since.out (take sent frame) results since.ran st.ran ends.WriteFault
         (cut_off old ends.WriteFault input (output ++ since.out) (results ++ since.ran) st.ran body left frame sent (since.story input output results s) read (λ fs o p. p) (λ i bs a. tt));
@@ -193,7 +200,7 @@ module _ {C : Type 0} (stands : C → Plain → List Entry → Type 0) (seat : �
     out = since.out;
     keeps = all_kept a b c first old new s0 s1 (Err e) since st;
     gets = since.gets;
-    cause = tt;
+    cause = since.counts;
     story = λ input output results counts s. none_told old input output since.out results since.ran st.ran (since.story input output results s) st.step;
   }
 

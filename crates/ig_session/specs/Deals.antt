@@ -1,8 +1,8 @@
 -- What a session was asked, what came of it, and what it replies.
-use Rattle.std.specs.Prelude.{ℕ, List, [], ◌∷◌, map, Option, None, Some}
+use Rattle.std.specs.Prelude.{ℕ, List, [], ◌∷◌, map, Option, None, Some, if◌then◌else◌}
 use Rattle.std.specs.List.{flat_map}
 use Rattle.ig_session.specs.Histories.{Entry}
-use Rattle.ig_session.specs.Hellos.{hello_frame}
+use Rattle.ig_session.specs.Hellos.{is_accepted, hello_frame}
 use Rattle.ig_session.specs.Requests.{ask_of}
 use Rattle.ig_session.specs.Replies.{Shown, refused, came_of, no_memory, reply_frame}
 use Rattle.ig_session.specs.declared.caches.Call.{Call}
@@ -35,10 +35,10 @@ entry_of seat call NoMemory = []
 abbrev pub entries_of : ℕ → List Ran → List Entry
 entries_of seat results = flat_map (λ (r : Ran). entry_of seat r.call r.got) results
 
--- behind the hello each body is a request
+-- after an accepted hello each body is a request, and after a refused one nothing is asked
 abbrev pub asks : List (List ℕ) → List Asked
 asks [] = []
-asks (greeting ∷ bodies) = map ask_of bodies
+asks (greeting ∷ bodies) = if is_accepted greeting then map ask_of bodies else []
 
 abbrev pub call_in : Ask → List Call
 call_in (Run call) = call ∷ []
@@ -79,4 +79,4 @@ replies asked given = map reply_to (dealt asked given)
 -- the frames that answer these bodies: the reply to the hello, and one reply to each request
 abbrev pub out_frames : List (List ℕ) → List Got → List (List ℕ)
 out_frames [] given = []
-out_frames (greeting ∷ bodies) given = hello_frame greeting ∷ replies (map ask_of bodies) given
+out_frames (greeting ∷ bodies) given = hello_frame greeting ∷ replies (asks (greeting ∷ bodies)) given

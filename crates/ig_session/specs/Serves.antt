@@ -1,5 +1,5 @@
 -- What a session's input, output and history have to do with one another.
-use Rattle.std.specs.Prelude.{◌≡◌, ◌≢◌, ℕ, ◌+◌, ◌≤◌, ◌^◌, true, false, List, [], ◌∷◌, ◌++◌, length}
+use Rattle.std.specs.Prelude.{◌≡◌, ◌≢◌, ℕ, ◌+◌, ◌<◌, ◌≤◌, ◌^◌, true, false, List, [], ◌∷◌, ◌++◌, length}
 use Rattle.std.specs.List.{flat_map}
 use Rattle.ig_base.specs.Frames.{client, least_after, Begins, front, Part, Bad}
 use Rattle.ig_session.specs.Histories.{Entry}
@@ -40,12 +40,12 @@ pub record IsWaiting (bodies : List (List ℕ)) (after : List ℕ) (missing : �
 
 -- Why a session ended, by the bodies that it read and what of its input follows them.
 abbrev pub EndsBy : SessionEnd → List ℕ → List (List ℕ) → List ℕ → Type 0
-EndsBy ends.Ended input bodies after = IsOpen bodies × (after ≡ [])
-EndsBy (ends.Truncated missing) input bodies after = IsWaiting bodies after missing × (IsOpen bodies → after ≢ [])
+EndsBy ends.Ended input bodies after = IsOpen bodies × (after ≡ []) × (length input < byte_limit)
+EndsBy (ends.Truncated missing) input bodies after = IsWaiting bodies after missing × (IsOpen bodies → after ≢ []) × (length input < byte_limit)
 EndsBy (ends.BadFrame place len) input bodies after =
     IsGoing bodies × (place + length after ≡ length input) × (front (least_after client bodies) after ≡ Bad len)
 EndsBy (ends.HelloRefused fault) input bodies after = IsRefused bodies (ends.HelloRefused fault)
-EndsBy ends.ReadFault input bodies after = (missing : ℕ) × IsWaiting bodies after missing
+EndsBy ends.ReadFault input bodies after = (length input < byte_limit) × (missing : ℕ) × IsWaiting bodies after missing
 EndsBy ends.WriteFault input bodies after = Unit {0}
 EndsBy ends.ByteLimit input bodies after = (length input ≡ byte_limit) × (missing : ℕ) × IsWaiting bodies after missing
 EndsBy ends.NoMemory input bodies after = Unit {0}
@@ -78,6 +78,7 @@ Shows ends.ByteLimit frames output = output ≡ joined frames
 pub record Runs (input output : List ℕ) (results : List Ran) (end : SessionEnd) : Type 0 where
   pub bodies : List (List ℕ)
   pub after : List ℕ
+  pub within : length input ≤ byte_limit
   pub begins : Begins client input bodies after
   pub ends_by : EndsBy end input bodies after
   pub handed_out : handed results ≡ calls (asks bodies)

@@ -1,5 +1,5 @@
 -- What the loop of a session keeps.
-use Rattle.std.specs.Prelude.{◌≡◌, ℕ, ◌<◌, ◌≤◌, true, false, List, ◌++◌, length, Result, Ok, Err}
+use Rattle.std.specs.Prelude.{◌≡◌, ℕ, ◌<◌, ◌≤◌, true, false, List, [], ◌++◌, length, Option, Some, Result, Ok, Err}
 use Rattle.ig_base.specs.Frames as frames
 use Rattle.ig_link.specs.States.{SourceState, SinkState, Rose, Gives, Gets}
 use Rattle.ig_session.specs.Caches.{Plain}
@@ -11,6 +11,28 @@ use Rattle.ig_session.specs.Sessions.{Stands}
 use Rattle.ig_session.specs.declared.session.Session.{Session}
 use Rattle.ig_session.specs.declared.end.SessionEnd.{SessionEnd}
 use Rattle.ig_session.specs.declared.end.SessionEnd.TheVariants as ends
+
+-- a source that has ended without a failed read, with nothing left where its reads hold
+pub record HasEnded (old new : SourceState) : Type 0 where
+  pub ended : new.ended ≡ true
+  pub counts : new.faults ≡ old.faults
+  pub whole : old.holds ≡ true → new.left ≡ Some []
+
+-- a source that hasn't ended, without a failed read
+pub record IsStillOpen (old new : SourceState) : Type 0 where
+  pub ended : new.ended ≡ false
+  pub counts : new.faults ≡ old.faults
+
+-- a source of which a read failed, which is counted, and never where its reads hold
+pub record ReadHasFailed (old new : SourceState) : Type 0 where
+  pub ended : new.ended ≡ false
+  pub rose : Rose old.faults new.faults
+  pub holds_not : old.holds ≡ false
+
+-- a sink of which a write failed, which is counted, and never where its writes hold
+pub record WriteHasFailed (old new : SinkState) : Type 0 where
+  pub rose : Rose old.faults new.faults
+  pub holds_not : old.holds ≡ false
 
 -- a session that has answered all whole frames, and has this many bytes missing to the next
 pub record Waits (state : Session) (input output : List ℕ) (results : List Ran) (missing : ℕ) : Type 0 where
@@ -26,15 +48,15 @@ AfterAnswers (Err end) new input output results = Runs input output results end
 abbrev pub EndsAnswering : SessionEnd → SinkState → SinkState → Type 0
 EndsAnswering ends.Ended old new = ⊥
 EndsAnswering (ends.Truncated missing) old new = ⊥
-EndsAnswering (ends.BadFrame place len) old new = Unit {0}
-EndsAnswering (ends.HelloRefused fault) old new = Unit {0}
+EndsAnswering (ends.BadFrame place len) old new = new.faults ≡ old.faults
+EndsAnswering (ends.HelloRefused fault) old new = new.faults ≡ old.faults
 EndsAnswering ends.ReadFault old new = ⊥
-EndsAnswering ends.WriteFault old new = Rose old.faults new.faults × (old.holds ≡ false)
+EndsAnswering ends.WriteFault old new = WriteHasFailed old new
 EndsAnswering ends.ByteLimit old new = ⊥
-EndsAnswering ends.NoMemory old new = Unit {0}
+EndsAnswering ends.NoMemory old new = new.faults ≡ old.faults
 
 abbrev pub HasAnswered : Result ℕ SessionEnd → SinkState → SinkState → Type 0
-HasAnswered (Ok missing) old new = Unit {0}
+HasAnswered (Ok missing) old new = new.faults ≡ old.faults
 HasAnswered (Err end) old new = EndsAnswering end old new
 
 -- all whole frames were answered: these calls were run, and these bytes were written
@@ -50,17 +72,17 @@ pub record AnswersAll {C : Type 0} (stands : C → Plain → List Entry → Type
 
 -- the ends that taking a piece has, with the cause of each
 abbrev pub EndsTaking : SessionEnd → ℕ → SourceState → SourceState → Type 0
-EndsTaking ends.Ended taken old new = new.ended ≡ true
-EndsTaking (ends.Truncated missing) taken old new = new.ended ≡ true
+EndsTaking ends.Ended taken old new = HasEnded old new
+EndsTaking (ends.Truncated missing) taken old new = HasEnded old new
 EndsTaking (ends.BadFrame place len) taken old new = ⊥
 EndsTaking (ends.HelloRefused fault) taken old new = ⊥
-EndsTaking ends.ReadFault taken old new = (new.ended ≡ false) × Rose old.faults new.faults × (old.holds ≡ false)
+EndsTaking ends.ReadFault taken old new = ReadHasFailed old new
 EndsTaking ends.WriteFault taken old new = ⊥
 EndsTaking ends.ByteLimit taken old new = (taken ≡ byte_limit) × (new ≡ old)
-EndsTaking ends.NoMemory taken old new = new.ended ≡ false
+EndsTaking ends.NoMemory taken old new = IsStillOpen old new
 
 abbrev pub HasTaken : Result ℕ SessionEnd → ℕ → SourceState → SourceState → Type 0
-HasTaken (Ok taken') taken old new = (taken < taken') × (taken' ≤ byte_limit) × (new.ended ≡ false)
+HasTaken (Ok taken') taken old new = (taken < taken') × (taken' ≤ byte_limit) × IsStillOpen old new
 HasTaken (Err end) taken old new = EndsTaking end taken old new
 
 abbrev pub AfterTaking : Result ℕ SessionEnd → Session → List ℕ → List ℕ → List Ran → Type 0
@@ -75,16 +97,31 @@ pub record TakesPiece (old new : Session) (source source' : SourceState) (taken 
   pub story : (input output : List ℕ) (results : List Ran) → length input ≡ taken → Waits old input output results missing
       → AfterTaking result new (input ++ bytes) output results
 
+-- What each end says of the source. The count of read faults stays but at a read fault.
+abbrev pub SourceAt : SessionEnd → SourceState → SourceState → Type 0
+SourceAt ends.Ended old new = HasEnded old new
+SourceAt (ends.Truncated missing) old new = HasEnded old new
+SourceAt (ends.BadFrame place len) old new = IsStillOpen old new
+SourceAt (ends.HelloRefused fault) old new = IsStillOpen old new
+SourceAt ends.ReadFault old new = ReadHasFailed old new
+SourceAt ends.WriteFault old new = IsStillOpen old new
+SourceAt ends.ByteLimit old new = IsStillOpen old new
+SourceAt ends.NoMemory old new = new.faults ≡ old.faults
+
+-- What each end says of the sink. The count of write faults stays but at a write fault.
+abbrev pub SinkAt : SessionEnd → SinkState → SinkState → Type 0
+SinkAt ends.Ended old new = new.faults ≡ old.faults
+SinkAt (ends.Truncated missing) old new = new.faults ≡ old.faults
+SinkAt (ends.BadFrame place len) old new = new.faults ≡ old.faults
+SinkAt (ends.HelloRefused fault) old new = new.faults ≡ old.faults
+SinkAt ends.ReadFault old new = new.faults ≡ old.faults
+SinkAt ends.WriteFault old new = WriteHasFailed old new
+SinkAt ends.ByteLimit old new = new.faults ≡ old.faults
+SinkAt ends.NoMemory old new = new.faults ≡ old.faults
+
 -- the cause of each end
 abbrev pub IsCaused : SessionEnd → SourceState → SourceState → SinkState → SinkState → Type 0
-IsCaused ends.Ended source source' sink sink' = source'.ended ≡ true
-IsCaused (ends.Truncated missing) source source' sink sink' = source'.ended ≡ true
-IsCaused (ends.BadFrame place len) source source' sink sink' = source'.ended ≡ false
-IsCaused (ends.HelloRefused fault) source source' sink sink' = source'.ended ≡ false
-IsCaused ends.ReadFault source source' sink sink' = (source'.ended ≡ false) × Rose source.faults source'.faults × (source.holds ≡ false)
-IsCaused ends.WriteFault source source' sink sink' = (source'.ended ≡ false) × Rose sink.faults sink'.faults × (sink.holds ≡ false)
-IsCaused ends.ByteLimit source source' sink sink' = source'.ended ≡ false
-IsCaused ends.NoMemory source source' sink sink' = Unit {0}
+IsCaused end source source' sink sink' = SourceAt end source source' × SinkAt end sink sink'
 
 -- A session was served over a source and a sink: it took this input, wrote this output and made these entries,
 -- and whatever the caller stood for before, it now stands for these entries more.
@@ -110,4 +147,6 @@ pub record Going {C : Type 0} (stands : C → Plain → List Entry → Type 0) (
   pub writes : Gets sink sink' output
   pub counts : length input ≡ taken
   pub is_open : 0 < taken → source'.ended ≡ false
+  pub no_read_fault : source'.faults ≡ source.faults
+  pub no_write_fault : sink'.faults ≡ sink.faults
   pub waits : Waits state input output results missing

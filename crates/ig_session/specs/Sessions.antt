@@ -1,5 +1,5 @@
 -- A session between two of its steps.
-use Rattle.std.specs.Prelude.{◌≡◌, ◌⊎◌, ℕ, true, false, List, [], Result, Ok, Err}
+use Rattle.std.specs.Prelude.{◌≡◌, ◌⊎◌, ◌≤◌, ℕ, true, false, List, [], length, Result, Ok, Err}
 use Rattle.ig_base.specs.declared.memory.NoMemory.{NoMemory}
 use Rattle.ig_base.specs.Numbers.{AreBytes}
 use Rattle.ig_base.specs.Frames as frames
@@ -7,7 +7,7 @@ use Rattle.ig_session.specs.Caches.{Plain}
 use Rattle.ig_session.specs.Histories.{Entry, StandsOn}
 use Rattle.ig_session.specs.Hellos.{is_accepted, asked_version}
 use Rattle.ig_session.specs.Deals.{Ran, handed, gots, entries_of, asks, calls, out_frames}
-use Rattle.ig_session.specs.Serves.{joined}
+use Rattle.ig_session.specs.Serves.{byte_limit, joined}
 use Rattle.ig_session.specs.Bodies.{least_of, IsAt, AnswersBody, accepts}
 use Rattle.ig_session.specs.declared.wire.HelloFault.TheVariants.{Version}
 use Rattle.ig_session.specs.declared.session.Session.{Session}
@@ -17,6 +17,7 @@ use Rattle.ig_session.specs.declared.session.Step.TheVariants as steps
 -- a session that has read this input, written this output and handed out these calls, and goes on
 pub record Stands (state : Session) (input output : List ℕ) (results : List Ran) : Type 0 where
   pub bodies : List (List ℕ)
+  pub within : length input ≤ byte_limit
   pub begins : frames.Begins frames.client input bodies state.frames
   pub stage : IsAt state.is_open bodies
   pub handed_out : handed results ≡ calls (asks bodies)

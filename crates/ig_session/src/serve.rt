@@ -1,6 +1,8 @@
 //! Serving a link: the loop between a session and the two ends of what it serves.
 
-ghost use Rattle.std.specs.Prelude.{◌≡◌, ◌<◌, ◌≤◌, length};
+ghost use Rattle.std.specs.Prelude.{◌≡◌, ◌<◌, ◌≤◌, length, OnOk, IfErr};
+ghost use Rattle.ig_link.specs.States.{Gets};
+ghost use Rattle.ig_link.specs.Calls.{SentPart};
 ghost use Rattle.ig_session.specs.Serves.{byte_limit};
 ghost use Rattle.ig_session.specs.Ends.{end_at};
 ghost use Rattle.ig_session.specs.Serving.{TakesPiece, AnswersAll, Served};
@@ -8,7 +10,7 @@ ghost use Rattle.ig_session.specs.Serving.{TakesPiece, AnswersAll, Served};
 use crate::caller::Caller;
 use crate::end::{SessionCfg, SessionEnd};
 use crate::session::{Session, Step};
-use ig_link::{Duplex, Sink, Source, Take, send_all};
+use ig_link::{Duplex, Gave, SendFault, Sink, Source, Take};
 use std::alloc::Global;
 
 /// The most bytes that a read takes.
@@ -55,6 +57,24 @@ fn take_piece<S: Source>(
             Err(_) => Err(SessionEnd::NoMemory),
         },
     }
+}
+
+/// Writes a whole piece, as [`ig_link::send_all`] does. The count of write faults stays where all of it was
+/// written.
+fn send_all<K: Sink>(sink: &mut K, piece: &[u8]) -> Result<(), SendFault>
+    ensures ok { OnOk result (Gets (K.sink sink.old) (K.sink sink.new) piece.now) }
+    ensures counts { OnOk result ((K.sink sink.new).faults ≡ (K.sink sink.old).faults) }
+    ensures err { IfErr result (λ e. SentPart e.sent (K.sink sink.old) (K.sink sink.new) piece.now) }
+    ensures beside { K.source_beside sink.new ≡ K.source_beside sink.old }
+{
+    let mut sent = 0;
+    while sent < piece.len() {
+        match sink.write(&piece[sent..]) {
+            Gave::Bytes(n) => sent += n,
+            Gave::Failed => return Err(SendFault { sent }),
+        }
+    }
+    Ok(())
 }
 
 /// Answers each whole frame, in order, and tells how many bytes are missing to the next.

@@ -41,7 +41,7 @@ pipe_none name source sink = record {
   takes = Gives-nothing source;
   writes = Gets-nothing sink;
   serves = record { results = []; entries_are = refl; runs = nothing_ran };
-  caused = tt;
+  caused = (refl, refl);
   status_is = refl;
 }
 

@@ -59,7 +59,7 @@ frames-preserved g c =
     c.frames.invariant.seat c.in-Ok-Out.field-0-is c.in-Ok-Out.ensures.steps in
     record {
       since = since_out stands seat c.args.caller.now c.frames.caller c.advance.new.caller c.args.session.now c.frames.session c.advance.new.self c.advance.new.self (g.K.Sink.sink c.args.sink.now) (g.K.Sink.sink c.frames.sink) (g.K.Sink.sink c.send_all.new.sink) since st
-          (subst (Gets (g.K.Sink.sink c.frames.sink) (g.K.Sink.sink c.send_all.new.sink)) c.as_slice.ensures c.in-Ok.ensures.ok) refl refl;
+          (subst (Gets (g.K.Sink.sink c.frames.sink) (g.K.Sink.sink c.send_all.new.sink)) c.as_slice.ensures c.in-Ok.ensures.ok) c.in-Ok.ensures.counts refl refl;
       seat = c.advance.ensures.seat ∙ c.frames.invariant.seat;
       lent = c.advance.ensures.lent ∙ c.frames.invariant.lent;
       kept = c.advance.ensures.kept ∙ c.frames.invariant.kept;
@@ -84,7 +84,7 @@ returns-in-Ok-send_all-clause-answers g c =
     let st = at_step stands (g.C.Caller.seat c.frames.caller) seat c.frames.caller c.advance.new.caller c.frames.session c.advance.new.self c.in-Ok-Refused.field-0 (steps.Refused c.in-Ok-Refused.fault)
     c.frames.invariant.seat c.in-Ok-Refused.field-0-is c.in-Ok-Refused.ensures.steps in
     since_refused stands seat c.args.caller.now c.frames.caller c.advance.new.caller c.args.session.now c.frames.session c.advance.new.self c.advance.new.self (g.K.Sink.sink c.args.sink.now) (g.K.Sink.sink c.frames.sink) (g.K.Sink.sink c.send_all-in-Ok-Refused.new.sink) c.args.taken c.in-Ok-Refused.fault since st
-    (subst (Gets (g.K.Sink.sink c.frames.sink) (g.K.Sink.sink c.send_all-in-Ok-Refused.new.sink)) c.as_slice-in-Ok-Refused.ensures c.in-Ok-send_all.ensures.ok)
+    (subst (Gets (g.K.Sink.sink c.frames.sink) (g.K.Sink.sink c.send_all-in-Ok-Refused.new.sink)) c.as_slice-in-Ok-Refused.ensures c.in-Ok-send_all.ensures.ok) c.in-Ok-send_all.ensures.counts
 
 pub returns-in-Err-send_all-2-clause-answers : goal.returns-in-Err-send_all-2-clause-answers
 returns-in-Err-send_all-2-clause-answers g c =
