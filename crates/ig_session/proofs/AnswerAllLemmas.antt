@@ -15,7 +15,7 @@ use Rattle.ig_session.specs.Histories.{Entry, StandsOn}
 use Rattle.ig_session.specs.Deals.{Ran, entries_of, entry_of}
 use Rattle.ig_session.specs.Serves.{Runs}
 use Rattle.ig_session.specs.Bodies.{least_of, IsAt}
-use Rattle.ig_session.specs.Sessions.{Stands, ReadsBody, Steps}
+use Rattle.ig_session.specs.Sessions.{Stands, ReadsBody, StepsTo, Steps}
 use Rattle.ig_session.specs.Serving.{AnswersAll}
 use Rattle.ig_session.specs.declared.wire.HelloFault.{HelloFault}
 use Rattle.ig_session.specs.declared.session.Session.{Session}
@@ -183,15 +183,15 @@ module _ {C : Type 0} (stands : C → Plain → List Entry → Type 0) (seat : �
       faulted a b c first old new after s0 s1 s2 taken sent (Ok (steps.Refused why)) st.step.0 new.frames new.reply since st st.step.1 fault
 
   -- there was no memory for a request, or for a reply
-  none_told : (old : Session) (input output more : List ℕ) (results xs ys : List Ran) → Stands old input (output ++ more) (results ++ xs) → (ys ≡ []) ⊎ ((body after frame : List ℕ) × ReadsBody old body after ys frame)
+  none_told : (old new : Session) (e : NoMemory) (input output more : List ℕ) (results xs ys : List Ran) → Stands old input (output ++ more) (results ++ xs) → StepsTo (Err e) old new ys
       → Runs input (output ++ more) (results ++ (xs ++ ys)) ends.NoMemory
-  none_told old input output more results xs ys s (inl none) =
-      let same : results ++ xs ≡ results ++ (xs ++ ys) = ap (λ (l : List Ran). results ++ l) (sym (ap (λ l. xs ++ l) none ∙ append-nil xs)) in
+  none_told old new e input output more results xs ys s (inl unread) =
+      let same : results ++ xs ≡ results ++ (xs ++ ys) = ap (λ (l : List Ran). results ++ l) (sym (ap (λ l. xs ++ l) unread.none ∙ append-nil xs)) in
       subst (λ (l : List Ran). Runs input (output ++ more) l ends.NoMemory) same (ends_whole old ends.NoMemory input (output ++ more) (results ++ xs) s tt all_shown)
-  none_told old input output more results xs ys s (inr read) =
+  none_told old new e input output more results xs ys s (inr read) =
       subst (λ (l : List ℕ). Runs input (output ++ l) (results ++ (xs ++ ys)) ends.NoMemory) (append-nil more)
       (regrouped input output more [] results xs ys ends.NoMemory
-      (cut_off old ends.NoMemory input (output ++ more) (results ++ xs) ys read.0 read.1 read.2 0 s read.3 (λ fs o p. p) (λ i bs a. tt)))
+      (cut_off old ends.NoMemory input (output ++ more) (results ++ xs) ys read.0 new.frames read.1 0 s read.2 (λ fs o p. p) (λ i bs a. tt)))
 
   pub since_none : (a b c : C) (first old new after : Session) (s0 s1 : SinkState) (taken : ℕ) (e : NoMemory) → Since stands seat a b first old s0 s1 → Steps stands seat b c old new (Err e)
       → AnswersAll stands seat a c first after s0 s1 taken (Err ends.NoMemory)
@@ -201,7 +201,7 @@ module _ {C : Type 0} (stands : C → Plain → List Entry → Type 0) (seat : �
     keeps = all_kept a b c first old new s0 s1 (Err e) since st;
     gets = since.gets;
     cause = since.counts;
-    story = λ input output results counts s. none_told old input output since.out results since.ran st.ran (since.story input output results s) st.step;
+    story = λ input output results counts s. none_told old new e input output since.out results since.ran st.ran (since.story input output results s) st.step;
   }
 
 pub at_step : {C : Type 0} (stands : C → Plain → List Entry → Type 0) (seat seat' : ℕ) (caller caller' : C) (old new : Session) (step step' : Step) → seat ≡ seat' → step ≡ step'

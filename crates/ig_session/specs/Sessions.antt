@@ -29,7 +29,13 @@ pub record ReadsBody (old : Session) (body after : List ℕ) (ran : List Ran) (f
   pub found : frames.front (least_of old.is_open) old.frames ≡ frames.Body body after
   pub answers : AnswersBody old.is_open body ran frame
 
--- What a step does. Without memory for it nothing was read, or a body was, whose reply is missing.
+-- nothing was read, and no call was run
+pub record IsUnread (old new : Session) (ran : List Ran) : Type 0 where
+  pub none : ran ≡ []
+  pub frames_are : new.frames ≡ old.frames
+  pub is_open : new.is_open ≡ old.is_open
+
+-- What a step does. When out of memory, either nothing was read, or a body was read and its reply is missing.
 abbrev pub StepsTo : Result Step NoMemory → Session → Session → List Ran → Type 0
 StepsTo (Ok (steps.More missing)) old new ran =
     (ran ≡ []) × (new.frames ≡ old.frames) × (new.is_open ≡ old.is_open) × (frames.front (least_of old.is_open) old.frames ≡ frames.Part missing)
@@ -38,8 +44,8 @@ StepsTo (Ok (steps.Bad len)) old new ran =
 StepsTo (Ok steps.Out) old new ran =
     (body : List ℕ) × ReadsBody old body new.frames ran new.reply × (accepts old.is_open body ≡ true) × (new.is_open ≡ true)
 StepsTo (Ok (steps.Refused fault)) old new ran =
-    (body : List ℕ) × ReadsBody old body new.frames ran new.reply × (old.is_open ≡ false) × (is_accepted body ≡ false) × (fault ≡ Version (asked_version body))
-StepsTo (Err e) old new ran = (ran ≡ []) ⊎ ((body after frame : List ℕ) × ReadsBody old body after ran frame)
+    (body : List ℕ) × ReadsBody old body new.frames ran new.reply × (old.is_open ≡ false) × (is_accepted body ≡ false) × (fault ≡ Version (asked_version body)) × (new.is_open ≡ false)
+StepsTo (Err e) old new ran = IsUnread old new ran ⊎ ((body frame : List ℕ) × ReadsBody old body new.frames ran frame × (new.is_open ≡ accepts old.is_open body))
 
 -- a step, with what it made of the caller
 pub record Steps {C : Type 0} (stands : C → Plain → List Entry → Type 0) (seat : ℕ) (caller caller' : C) (old new : Session) (result : Result Step NoMemory) : Type 0 where
