@@ -23,14 +23,14 @@ use Rattle.ig_session.specs.declared.session.Step.{Step}
 use Rattle.ig_session.specs.declared.session.Step.TheVariants as steps
 use Rattle.ig_session.specs.declared.end.SessionEnd.{SessionEnd}
 use Rattle.ig_session.specs.declared.end.SessionEnd.TheVariants as ends
-use Rattle.ig_session.proofs.AnswerLemmas.{stands_still}
+use Rattle.ig_session.proofs.AnswerLemmas.{StandsOn-nothing}
 use Rattle.ig_session.proofs.ServeLemmas.{goes_on, cut_off, refuses, ends_whole, all_shown, goes, least_same}
 
 pub entries-append : (seat : ℕ) (xs ys : List Ran) → entries_of seat (xs ++ ys) ≡ entries_of seat xs ++ entries_of seat ys
 entries-append seat xs ys = flat_map-append (λ (r : Ran). entry_of seat r.call r.got) xs ys
 
-pub stands_then : {C : Type 0} (stands : C → Plain → List Entry → Type 0) (a b c : C) (xs ys : List Entry) → StandsOn stands a b xs → StandsOn stands b c ys → StandsOn stands a c (xs ++ ys)
-stands_then stands a b c xs ys first second = record {
+pub StandsOn-then : {C : Type 0} (stands : C → Plain → List Entry → Type 0) (a b c : C) (xs ys : List Entry) → StandsOn stands a b xs → StandsOn stands b c ys → StandsOn stands a c (xs ++ ys)
+StandsOn-then stands a b c xs ys first second = record {
   keeps = λ start own h. subst (stands c start) (append_assoc own xs ys) (second.keeps start (own ++ xs) (first.keeps start own h));
 }
 
@@ -41,7 +41,7 @@ pub record Since {C : Type 0} (stands : C → Plain → List Entry → Type 0) (
   pub keeps : StandsOn stands caller caller' (entries_of seat ran)
   pub gets : Gets sink sink' out
   pub counts : sink'.faults ≡ sink.faults
-  pub story : (input output : List ℕ) (results : List Ran) → Stands old input output results → Stands new input (output ++ out) (results ++ ran)
+  pub continues : (input output : List ℕ) (results : List Ran) → Stands old input output results → Stands new input (output ++ out) (results ++ ran)
 
 repacked : (old new : Session) (input output : List ℕ) (results : List Ran) → old.frames ≡ new.frames → old.is_open ≡ new.is_open → Stands old input output results → Stands new input output results
 repacked old new input output results fs os s = record {
@@ -69,16 +69,16 @@ module _ {C : Type 0} (stands : C → Plain → List Entry → Type 0) (seat : �
   since_start caller state sink = record {
     ran = [];
     out = [];
-    keeps = stands_still stands caller;
+    keeps = StandsOn-nothing stands caller;
     gets = Gets-nothing sink;
     counts = refl;
-    story = λ input output results s. subst (λ (l : List Ran). Stands state input (output ++ []) l) (sym (append-nil results))
+    continues = λ input output results s. subst (λ (l : List Ran). Stands state input (output ++ []) l) (sym (append-nil results))
         (subst (λ (l : List ℕ). Stands state input l results) (sym (append-nil output)) s);
   }
 
   -- calls that were run, and bytes that were written, after those before
   pub joins_keeps : (a b c : C) (xs ys : List Ran) → StandsOn stands a b (entries_of seat xs) → StandsOn stands b c (entries_of seat ys) → StandsOn stands a c (entries_of seat (xs ++ ys))
-  joins_keeps a b c xs ys first second = subst (StandsOn stands a c) (sym (entries-append seat xs ys)) (stands_then stands a b c (entries_of seat xs) (entries_of seat ys) first second)
+  joins_keeps a b c xs ys first second = subst (StandsOn stands a c) (sym (entries-append seat xs ys)) (StandsOn-then stands a b c (entries_of seat xs) (entries_of seat ys) first second)
 
   -- all that was run
   all_kept : (a b c : C) (first old new : Session) (s0 s1 : SinkState) (result : Result Step NoMemory) (since : Since stands seat a b first old s0 s1) (st : Steps stands seat b c old new result)
@@ -99,8 +99,8 @@ module _ {C : Type 0} (stands : C → Plain → List Entry → Type 0) (seat : �
     keeps = all_kept a b c first old new s0 s1 (Ok steps.Out) since st;
     gets = Gets-then since.gets sent;
     counts = counts ∙ since.counts;
-    story = λ input output results s.
-        let on = goes_on old new input (output ++ since.out) (results ++ since.ran) st.ran st.step.0 (since.story input output results s) st.step.1 st.step.2 st.step.3 in
+    continues = λ input output results s.
+        let on = goes_on old new input (output ++ since.out) (results ++ since.ran) st.ran st.step.0 (since.continues input output results s) st.step.1 st.step.2 st.step.3 in
         repacked new after input (output ++ (since.out ++ new.reply)) (results ++ (since.ran ++ st.ran)) (sym same_frames) (sym same_open)
         (subst (λ (l : List Ran). Stands new input (output ++ (since.out ++ new.reply)) l) (append_assoc results since.ran st.ran)
         (subst (λ (l : List ℕ). Stands new input l (results ++ since.ran ++ st.ran)) (append_assoc output since.out new.reply) on));
@@ -115,8 +115,8 @@ module _ {C : Type 0} (stands : C → Plain → List Entry → Type 0) (seat : �
     keeps = none_more a b c first old new s0 s1 (Ok (steps.More missing)) since st st.step.0;
     gets = since.gets;
     cause = since.counts;
-    story = λ input output results counts s.
-        let on = repacked old new input (output ++ since.out) (results ++ since.ran) (sym st.step.1) (sym st.step.2) (since.story input output results s) in
+    continues = λ input output results counts s.
+        let on = repacked old new input (output ++ since.out) (results ++ since.ran) (sym st.step.1) (sym st.step.2) (since.continues input output results s) in
         record {
           stands = on;
           part = ap (λ b. frames.front (least_of b) new.frames) st.step.2 ∙ ap (frames.front (least_of old.is_open)) st.step.1 ∙ st.step.3;
@@ -132,8 +132,8 @@ module _ {C : Type 0} (stands : C → Plain → List Entry → Type 0) (seat : �
     keeps = none_more a b c first old new s0 s1 (Ok (steps.Bad len)) since st st.step.0;
     gets = since.gets;
     cause = since.counts;
-    story = λ input output results counts s.
-        let on = repacked old new input (output ++ since.out) (results ++ since.ran) (sym st.step.1) (sym st.step.2) (since.story input output results s) in
+    continues = λ input output results counts s.
+        let on = repacked old new input (output ++ since.out) (results ++ since.ran) (sym st.step.1) (sym st.step.2) (since.continues input output results s) in
         let whole = ap length on.begins.whole ∙ length-append (flat_map frames.Frame on.bodies) new.frames in
         let found = ap (λ n. frames.front n new.frames) (least_same new.is_open on.bodies on.stage)
         ∙ ap (λ b. frames.front (least_of b) new.frames) st.step.2 ∙ ap (frames.front (least_of old.is_open)) st.step.1 ∙ st.step.3 in
@@ -150,9 +150,9 @@ module _ {C : Type 0} (stands : C → Plain → List Entry → Type 0) (seat : �
     keeps = all_kept a b c first old new s0 s1 (Ok (steps.Refused fault)) since st;
     gets = Gets-then since.gets sent;
     cause = counts ∙ since.counts;
-    story = λ input output results counts s.
+    continues = λ input output results counts s.
         regrouped input output since.out new.reply results since.ran st.ran (ends.HelloRefused fault)
-        (refuses old new input (output ++ since.out) (results ++ since.ran) st.ran st.step.0 fault (since.story input output results s) st.step.1 st.step.2 st.step.3 st.step.4);
+        (refuses old new input (output ++ since.out) (results ++ since.ran) st.ran st.step.0 fault (since.continues input output results s) st.step.1 st.step.2 st.step.3 st.step.4);
   }
 
   -- the sink failed within a reply
@@ -167,9 +167,9 @@ module _ {C : Type 0} (stands : C → Plain → List Entry → Type 0) (seat : �
       rose = Rose-after s0.faults s1.faults s2.faults since.gets.faults fault.rose;
       holds_not = held_not s0.holds s1.holds since.gets.holds fault.holds_not;
     };
-    story = λ input output results counts s.
+    continues = λ input output results counts s.
         regrouped input output since.out (take sent frame) results since.ran st.ran ends.WriteFault
-        (cut_off old ends.WriteFault input (output ++ since.out) (results ++ since.ran) st.ran body left frame sent (since.story input output results s) read (λ fs o p. p) (λ i bs a. tt));
+        (cut_off old ends.WriteFault input (output ++ since.out) (results ++ since.ran) st.ran body left frame sent (since.continues input output results s) read (λ fs o p. p) (λ i bs a. tt));
   }
 
   pub since_fault : (a b c : C) (first old new after : Session) (s0 s1 s2 : SinkState) (taken sent : ℕ) → Since stands seat a b first old s0 s1 → Steps stands seat b c old new (Ok steps.Out)
@@ -201,7 +201,7 @@ module _ {C : Type 0} (stands : C → Plain → List Entry → Type 0) (seat : �
     keeps = all_kept a b c first old new s0 s1 (Err e) since st;
     gets = since.gets;
     cause = since.counts;
-    story = λ input output results counts s. none_told old new e input output since.out results since.ran st.ran (since.story input output results s) st.step;
+    continues = λ input output results counts s. none_told old new e input output since.out results since.ran st.ran (since.continues input output results s) st.step;
   }
 
 pub at_step : {C : Type 0} (stands : C → Plain → List Entry → Type 0) (seat seat' : ℕ) (caller caller' : C) (old new : Session) (step step' : Step) → seat ≡ seat' → step ≡ step'
@@ -209,7 +209,7 @@ pub at_step : {C : Type 0} (stands : C → Plain → List Entry → Type 0) (sea
 at_step stands seat seat' caller caller' old new step step' e f st =
     subst (λ (s : ℕ). Steps stands s caller caller' old new (Ok step')) e (subst (λ (t : Step). Steps stands seat caller caller' old new (Ok t)) f st)
 
--- a frame that was read is gone
+-- a frame that was read is no longer in the input
 pub steps_shorter : {C : Type 0} (stands : C → Plain → List Entry → Type 0) (seat : ℕ) (caller caller' : C) (old new : Session) → Steps stands seat caller caller' old new (Ok steps.Out)
     → length new.frames < length old.frames
 steps_shorter stands seat caller caller' old new st =

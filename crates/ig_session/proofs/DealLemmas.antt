@@ -13,7 +13,7 @@ use Rattle.ig_session.specs.declared.ops.Asked.{Asked}
 pub calls-append : (xs ys : List Asked) → calls (xs ++ ys) ≡ calls xs ++ calls ys
 calls-append xs ys = flat_map-append (λ (a : Asked). call_in a.ask) xs ys
 
--- what was given is dealt out to two runs of requests one after the other
+-- the results of two runs of requests, one after the other
 next-append : (asked : Asked) (ask : Ask) (more later : List Asked) (gs hs : List Got) → length gs ≡ length (call_in ask ++ calls more)
     → ((gs : List Got) → length gs ≡ length (calls more) → dealt (more ++ later) (gs ++ hs) ≡ dealt more gs ++ dealt later hs)
     → deal_next asked ask (gs ++ hs) (dealt (more ++ later)) ≡ deal_next asked ask gs (dealt more) ++ dealt later hs
@@ -29,7 +29,7 @@ dealt-append (a ∷ xs) ys gs hs len = next-append a a.ask xs ys gs hs len (λ g
 pub replies-append : (xs ys : List Asked) (gs hs : List Got) → length gs ≡ length (calls xs) → replies (xs ++ ys) (gs ++ hs) ≡ replies xs gs ++ replies ys hs
 replies-append xs ys gs hs len = ap (map reply_to) (dealt-append xs ys gs hs len) ∙ map-append reply_to (dealt xs gs) (dealt ys hs)
 
--- as many were given as were handed out
+-- there are as many results as calls
 pub given_for : (results : List Ran) (asked : List Asked) → handed results ≡ calls asked → length (gots results) ≡ length (calls asked)
 given_for results asked e = length-map results (λ (r : Ran). r.got) ∙ sym (length-map results (λ (r : Ran). r.call)) ∙ ap length e
 

@@ -1,4 +1,4 @@
--- What a look at a stream finds.
+-- What a stream begins with.
 use Rattle.std.proofs.Common.{◌≡◌, ℕ, ℤ, pos, negsuc, ◌+◌, ◌-◌, ◌≤◌, ◌&&◌, List, length, length-take-le, take, drop, Option, None, Some, sym, ap, ◌∙◌, arith, inl, inr}
 use Rattle.std.specs.Prelude.{nat_lt, nat_le}
 use Rattle.std.specs.Int.{w32}
@@ -25,7 +25,7 @@ unfolding front
 look_body least bytes z len read range long =
     ap (front_from least bytes) read ∙ sized least bytes z len range ∙ cond-false (nat_lt (length (drop 4 bytes)) len) _ _ (le-ltb _ _ long)
 
--- behind a whole frame that is found stands what follows it
+-- after a whole frame that is found comes the rest of the stream
 pub passed : (least : ℕ) (bytes body new : List ℕ) (after : List ℕ) → front least bytes ≡ Body body after → new ≡ drop (4 + length body) bytes → front least bytes ≡ Body body new
 passed least bytes body new after found gone = found ∙ ap (Body body) (sym (gone ∙ (front-inside least bytes body after found).1))
 

@@ -15,7 +15,7 @@ use Rattle.ig_session.specs.Serving.{HasEnded, IsStillOpen, ReadHasFailed, Write
 use Rattle.ig_session.specs.declared.session.Session.{Session}
 use Rattle.ig_session.specs.declared.end.SessionEnd.{SessionEnd}
 use Rattle.ig_session.specs.declared.end.SessionEnd.TheVariants as ends
-use Rattle.ig_session.proofs.AnswerLemmas.{stands_still}
+use Rattle.ig_session.proofs.AnswerLemmas.{StandsOn-nothing}
 use Rattle.ig_session.proofs.ServeLemmas.{all_shown}
 use Rattle.ig_session.proofs.AnswerAllLemmas.{joins_keeps, held_not}
 
@@ -51,7 +51,7 @@ module _ {C : Type 0} (stands : C → Plain → List Entry → Type 0) (seat : �
     input = [];
     output = [];
     entries = [];
-    keeps = stands_still stands caller;
+    keeps = StandsOn-nothing stands caller;
     takes = Gives-nothing source;
     writes = Gets-nothing sink;
     serves = record { results = []; entries_are = refl; runs = nothing_ran };
@@ -63,7 +63,7 @@ module _ {C : Type 0} (stands : C → Plain → List Entry → Type 0) (seat : �
     input = [];
     output = [];
     results = [];
-    keeps = stands_still stands caller;
+    keeps = StandsOn-nothing stands caller;
     takes = Gives-nothing source;
     writes = Gets-nothing sink;
     counts = refl;
@@ -79,7 +79,7 @@ module _ {C : Type 0} (stands : C → Plain → List Entry → Type 0) (seat : �
   pub going_on : (a b c : C) (s0 s1 s2 : Session) (x0 x1 x2 : SourceState) (y0 y1 y2 : SinkState) (taken taken' missing missing' : ℕ) → Going stands seat a b s0 x0 x1 y0 y1 taken missing
       → TakesPiece s0 s1 x1 x2 taken missing (Ok taken') → AnswersAll stands seat b c s1 s2 y1 y2 taken' (Ok missing') → Going stands seat a c s2 x0 x2 y0 y2 taken' missing'
   going_on a b c s0 s1 s2 x0 x1 x2 y0 y1 y2 taken taken' missing missing' going takes answers =
-      let took = takes.story going.input going.output going.results going.counts going.waits in
+      let took = takes.continues going.input going.output going.results going.counts going.waits in
       record {
         input = going.input ++ takes.bytes;
         output = going.output ++ answers.out;
@@ -91,7 +91,7 @@ module _ {C : Type 0} (stands : C → Plain → List Entry → Type 0) (seat : �
         is_open = λ some. takes.cause.2.ended;
         no_read_fault = takes.cause.2.counts ∙ going.no_read_fault;
         no_write_fault = answers.cause ∙ going.no_write_fault;
-        waits = answers.story (going.input ++ takes.bytes) going.output going.results took.0 took.1;
+        waits = answers.continues (going.input ++ takes.bytes) going.output going.results took.0 took.1;
       }
 
   -- what a read says of the source, said of it since the session began
@@ -131,7 +131,7 @@ module _ {C : Type 0} (stands : C → Plain → List Entry → Type 0) (seat : �
     keeps = going.keeps;
     takes = Gives-then going.takes takes.gives;
     writes = going.writes;
-    serves = record { results = going.results; entries_are = refl; runs = takes.story going.input going.output going.results going.counts going.waits };
+    serves = record { results = going.results; entries_are = refl; runs = takes.continues going.input going.output going.results going.counts going.waits };
     caused = caused_taking end taken x0 x1 x2 y0 y1 takes.cause going.takes.faults going.takes.holds going.is_open
         going.no_read_fault going.no_write_fault;
   }
@@ -156,7 +156,7 @@ module _ {C : Type 0} (stands : C → Plain → List Entry → Type 0) (seat : �
   pub answer_ended : (a b c : C) (s0 s1 s2 : Session) (x0 x1 x2 : SourceState) (y0 y1 y2 : SinkState) (taken taken' missing : ℕ) (end : SessionEnd) → Going stands seat a b s0 x0 x1 y0 y1 taken missing
       → TakesPiece s0 s1 x1 x2 taken missing (Ok taken') → AnswersAll stands seat b c s1 s2 y1 y2 taken' (Err end) → Served stands seat a c x0 x2 y0 y2 end
   answer_ended a b c s0 s1 s2 x0 x1 x2 y0 y1 y2 taken taken' missing end going takes answers =
-      let took = takes.story going.input going.output going.results going.counts going.waits in
+      let took = takes.continues going.input going.output going.results going.counts going.waits in
       record {
         input = going.input ++ takes.bytes;
         output = going.output ++ answers.out;
@@ -167,7 +167,7 @@ module _ {C : Type 0} (stands : C → Plain → List Entry → Type 0) (seat : �
         serves = record {
           results = going.results ++ answers.ran;
           entries_are = refl;
-          runs = answers.story (going.input ++ takes.bytes) going.output going.results took.0 took.1;
+          runs = answers.continues (going.input ++ takes.bytes) going.output going.results took.0 took.1;
         };
         caused = caused_answering end x0 x2 y0 y1 y2 answers.cause going.writes.faults going.writes.holds
             (open_since x0 x1 x2 takes.cause.2 going.no_read_fault) going.no_write_fault;

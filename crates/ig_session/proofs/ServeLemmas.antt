@@ -39,7 +39,7 @@ none_handed : (results : List Ran) → handed results ≡ [] → results ≡ []
 none_handed [] e = refl
 none_handed (r ∷ results) e = cc
 
--- what stands once the next body was read
+-- what holds once the next body was read
 pub record Read (input output : List ℕ) (results ran : List Ran) (bodies : List (List ℕ)) (b : Bool) (body after frame : List ℕ) : Type 0 where
   pub now : List (List ℕ)
   pub begins : Begins client input now after
@@ -55,8 +55,7 @@ read_more : (bodies : List (List ℕ)) (b : Bool) (body frame : List ℕ) (resul
 read_more [] false body frame results ran none e answers =
     let empty : results ≡ [] = none_handed results e in
     let all : results ++ ran ≡ [] = ap (λ l. l ++ ran) empty ∙ answers.0 in
-    let asked : asks (body ∷ []) ≡ [] = asks_none body in
-    (
+    let asked : asks (body ∷ []) ≡ [] = asks_none body in (
       ap handed all ∙ ap calls (sym asked),
       ap (λ (l : List Ran). out_frames (body ∷ []) (gots l)) all ∙ ap (λ (l : List Asked). hello_frame body ∷ replies l []) asked ∙ ap (λ f. f ∷ []) (sym answers.1),
       λ h. h,
@@ -106,7 +105,7 @@ goes_on old new input output results ran body s r fits opens =
       are_bytes = read.are_bytes;
     }
 
--- a front of the reply was written
+-- a prefix of the reply was written
 part_shown : (output frame : List ℕ) (sent : ℕ) (old new : List (List ℕ)) → output ≡ joined old → new ≡ old ++ frame ∷ [] → ShowsPart new (output ++ take sent frame)
 part_shown output frame sent old new e f = record {
   whole = old;

@@ -15,7 +15,7 @@ use Rattle.ig_session.specs.declared.wire.HelloFault.{HelloFault}
 use Rattle.ig_session.specs.declared.wire.HelloFault.TheVariants.{Version}
 use Rattle.ig_session.specs.declared.session.Session.{Session}
 use Rattle.ig_session.specs.declared.session.Step.TheVariants as steps
-use Rattle.ig_session.proofs.AnswerLemmas.{stands_still}
+use Rattle.ig_session.proofs.AnswerLemmas.{StandsOn-nothing}
 
 module _ {C : Type 0} (stands : C → Plain → List Entry → Type 0) (seat : ℕ) (caller caller' : C) (old new : Session) (body : List ℕ) where
   -- a request was read
@@ -58,7 +58,7 @@ module _ {C : Type 0} (stands : C → Plain → List Entry → Type 0) (seat : �
       → is_accepted body ≡ true → Steps stands seat caller caller old new (Ok steps.Out)
   hello_accepted was found told opens fits = record {
     ran = [];
-    keeps = stands_still stands caller;
+    keeps = StandsOn-nothing stands caller;
     step = (body, hello_reads new.reply was found told, ap (λ b. accepts b body) was ∙ fits, opens ∙ fits);
   }
 
@@ -66,7 +66,7 @@ module _ {C : Type 0} (stands : C → Plain → List Entry → Type 0) (seat : �
       → is_accepted body ≡ false → fault ≡ Version (asked_version body) → Steps stands seat caller caller old new (Ok (steps.Refused fault))
   hello_refused fault was found told opens other is = record {
     ran = [];
-    keeps = stands_still stands caller;
+    keeps = StandsOn-nothing stands caller;
     step = (body, hello_reads new.reply was found told, was, other, is, opens ∙ other);
   }
 
@@ -74,6 +74,6 @@ module _ {C : Type 0} (stands : C → Plain → List Entry → Type 0) (seat : �
       → Steps stands seat caller caller old new (Err e)
   hello_err e was found opens = record {
     ran = [];
-    keeps = stands_still stands caller;
+    keeps = StandsOn-nothing stands caller;
     step = inr (body, hello_frame body, hello_reads (hello_frame body) was found refl, opens ∙ sym (ap (λ b. accepts b body) was));
   }

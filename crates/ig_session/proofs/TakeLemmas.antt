@@ -15,7 +15,7 @@ use Rattle.ig_session.specs.declared.end.SessionEnd.{SessionEnd}
 use Rattle.ig_session.specs.declared.end.SessionEnd.TheVariants as ends
 use Rattle.ig_session.proofs.ServeLemmas.{waiting, ends_whole, all_shown, fed}
 
--- an end of which nothing was taken
+-- an end at which nothing was taken
 ends_here : (state : Session) (source source' : SourceState) (taken missing : ℕ) (end : SessionEnd) → Gives source source' [] → EndsTaking end taken source source'
     → ((fs : List (List ℕ)) (o : List ℕ) → o ≡ joined fs → Shows end fs o)
     → ((input output : List ℕ) (results : List Ran) → length input ≡ taken → (w : Waits state input output results missing) → EndsBy end input w.stands.bodies state.frames)
@@ -24,7 +24,7 @@ ends_here state source source' taken missing end gives cause whole by = record {
   bytes = [];
   gives = gives;
   cause = cause;
-  story = λ input output results counts w. subst (λ (l : List ℕ). Runs l output results end) (sym (append-nil input))
+  continues = λ input output results counts w. subst (λ (l : List ℕ). Runs l output results end) (sym (append-nil input))
       (ends_whole state end input output results w.stands (by input output results counts w) whole);
 }
 
@@ -81,19 +81,19 @@ takes_bytes old new source source' bytes taken taken' missing gives open_still s
   bytes = bytes;
   gives = gives;
   cause = (more, within, open_still);
-  story = λ input output results counts w.
+  continues = λ input output results counts w.
       let len : length (input ++ bytes) ≡ taken' = omega (arith, length-append input bytes, counts, sum) in
       (len, fed old new input output bytes results w.stands (omega (arith, len, within)) grown same are);
 }
 
--- the session was told all that came, and had no memory for it
+-- a piece was read, and the session was out of memory for it
 pub takes_none : (old new full : Session) (source source' : SourceState) (bytes : List ℕ) (taken missing : ℕ) → Gives source source' bytes → IsStillOpen source source' → taken + length bytes ≤ byte_limit
     → full.frames ≡ old.frames ++ bytes → full.is_open ≡ old.is_open → AreBytes bytes → TakesPiece old new source source' taken missing (Err ends.NoMemory)
 takes_none old new full source source' bytes taken missing gives open_still within grown same are = record {
   bytes = bytes;
   gives = gives;
   cause = open_still;
-  story = λ input output results counts w.
+  continues = λ input output results counts w.
       ends_whole full ends.NoMemory (input ++ bytes) output results
       (fed old full input output bytes results w.stands (omega (arith, length-append input bytes, counts, within)) grown same are) tt all_shown;
 }

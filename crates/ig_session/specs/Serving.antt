@@ -1,4 +1,4 @@
--- What the loop of a session keeps.
+-- What serving a session does, as a whole and in each round of its loop.
 use Rattle.std.specs.Prelude.{◌≡◌, ℕ, ◌<◌, ◌≤◌, true, false, List, [], ◌++◌, length, Option, Some, Result, Ok, Err}
 use Rattle.ig_base.specs.Frames as frames
 use Rattle.ig_link.specs.States.{SourceState, SinkState, Rose, Gives, Gets}
@@ -34,12 +34,12 @@ pub record WriteHasFailed (old new : SinkState) : Type 0 where
   pub rose : Rose old.faults new.faults
   pub holds_not : old.holds ≡ false
 
--- a session that has answered all whole frames, and has this many bytes missing to the next
+-- a session that has answered all whole frames, and needs this many more bytes to complete the next length or frame
 pub record Waits (state : Session) (input output : List ℕ) (results : List Ran) (missing : ℕ) : Type 0 where
   pub stands : Stands state input output results
   pub part : frames.front (least_of state.is_open) state.frames ≡ frames.Part missing
 
--- what stands after all whole frames were answered, or after the end that came first
+-- the session after it answered all whole frames, or after the end that came first
 abbrev pub AfterAnswers : Result ℕ SessionEnd → Session → List ℕ → List ℕ → List Ran → Type 0
 AfterAnswers (Ok missing) new input output results = Waits new input output results missing
 AfterAnswers (Err end) new input output results = Runs input output results end
@@ -59,7 +59,7 @@ abbrev pub HasAnswered : Result ℕ SessionEnd → SinkState → SinkState → T
 HasAnswered (Ok missing) old new = new.faults ≡ old.faults
 HasAnswered (Err end) old new = EndsAnswering end old new
 
--- all whole frames were answered: these calls were run, and these bytes were written
+-- the whole frames were answered: these calls were run, and these bytes were written
 pub record AnswersAll {C : Type 0} (stands : C → Plain → List Entry → Type 0) (seat : ℕ) (caller caller' : C) (old new : Session) (sink sink' : SinkState)
     (taken : ℕ) (result : Result ℕ SessionEnd) : Type 0 where
   pub ran : List Ran
@@ -67,7 +67,7 @@ pub record AnswersAll {C : Type 0} (stands : C → Plain → List Entry → Type
   pub keeps : StandsOn stands caller caller' (entries_of seat ran)
   pub gets : Gets sink sink' out
   pub cause : HasAnswered result sink sink'
-  pub story : (input output : List ℕ) (results : List Ran) → length input ≡ taken → Stands old input output results
+  pub continues : (input output : List ℕ) (results : List Ran) → length input ≡ taken → Stands old input output results
       → AfterAnswers result new input (output ++ out) (results ++ ran)
 
 -- the ends that taking a piece has, with the cause of each
@@ -89,12 +89,12 @@ abbrev pub AfterTaking : Result ℕ SessionEnd → Session → List ℕ → List
 AfterTaking (Ok taken) new input output results = (length input ≡ taken) × Stands new input output results
 AfterTaking (Err end) new input output results = Runs input output results end
 
--- a piece was taken: these bytes
+-- a piece of the input was read: these bytes
 pub record TakesPiece (old new : Session) (source source' : SourceState) (taken missing : ℕ) (result : Result ℕ SessionEnd) : Type 0 where
   pub bytes : List ℕ
   pub gives : Gives source source' bytes
   pub cause : HasTaken result taken source source'
-  pub story : (input output : List ℕ) (results : List Ran) → length input ≡ taken → Waits old input output results missing
+  pub continues : (input output : List ℕ) (results : List Ran) → length input ≡ taken → Waits old input output results missing
       → AfterTaking result new (input ++ bytes) output results
 
 -- What each end says of the source. The count of read faults stays but at a read fault.
@@ -123,8 +123,8 @@ SinkAt ends.NoMemory old new = new.faults ≡ old.faults
 abbrev pub IsCaused : SessionEnd → SourceState → SourceState → SinkState → SinkState → Type 0
 IsCaused end source source' sink sink' = SourceAt end source source' × SinkAt end sink sink'
 
--- A session was served over a source and a sink: it took this input, wrote this output and made these entries,
--- and whatever the caller stood for before, it now stands for these entries more.
+-- A session was served over a source and a sink: it took this input, wrote this output and added these entries to
+-- whatever history the caller had.
 pub record Served {C : Type 0} (stands : C → Plain → List Entry → Type 0) (seat : ℕ) (caller caller' : C) (source source' : SourceState) (sink sink' : SinkState)
     (end : SessionEnd) : Type 0 where
   pub input : List ℕ
@@ -136,7 +136,7 @@ pub record Served {C : Type 0} (stands : C → Plain → List Entry → Type 0) 
   pub serves : Serves seat input output entries end
   pub caused : IsCaused end source source' sink sink'
 
--- a session that goes on: what was taken, written and run so far
+-- a session that goes on: what was taken, written and run so far, without a failed read or write
 pub record Going {C : Type 0} (stands : C → Plain → List Entry → Type 0) (seat : ℕ) (caller caller' : C) (state : Session) (source source' : SourceState) (sink sink' : SinkState)
     (taken missing : ℕ) : Type 0 where
   pub input : List ℕ

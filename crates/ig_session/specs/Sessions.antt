@@ -14,7 +14,7 @@ use Rattle.ig_session.specs.declared.session.Session.{Session}
 use Rattle.ig_session.specs.declared.session.Step.{Step}
 use Rattle.ig_session.specs.declared.session.Step.TheVariants as steps
 
--- a session that has read this input, written this output and handed out these calls, and goes on
+-- a session that took this input, wrote this output, handed out these calls, and goes on
 pub record Stands (state : Session) (input output : List ℕ) (results : List Ran) : Type 0 where
   pub bodies : List (List ℕ)
   pub within : length input ≤ byte_limit
@@ -24,7 +24,7 @@ pub record Stands (state : Session) (input output : List ℕ) (results : List Ra
   pub shows : output ≡ joined (out_frames bodies (gots results))
   pub are_bytes : AreBytes state.frames
 
--- the next body was read, with what it made the session do
+-- the next body was read and answered
 pub record ReadsBody (old : Session) (body after : List ℕ) (ran : List Ran) (frame : List ℕ) : Type 0 where
   pub found : frames.front (least_of old.is_open) old.frames ≡ frames.Body body after
   pub answers : AnswersBody old.is_open body ran frame
@@ -47,7 +47,7 @@ StepsTo (Ok (steps.Refused fault)) old new ran =
     (body : List ℕ) × ReadsBody old body new.frames ran new.reply × (old.is_open ≡ false) × (is_accepted body ≡ false) × (fault ≡ Version (asked_version body)) × (new.is_open ≡ false)
 StepsTo (Err e) old new ran = IsUnread old new ran ⊎ ((body frame : List ℕ) × ReadsBody old body new.frames ran frame × (new.is_open ≡ accepts old.is_open body))
 
--- a step, with what it made of the caller
+-- a step, with the calls that it ran
 pub record Steps {C : Type 0} (stands : C → Plain → List Entry → Type 0) (seat : ℕ) (caller caller' : C) (old new : Session) (result : Result Step NoMemory) : Type 0 where
   pub ran : List Ran
   pub keeps : StandsOn stands caller caller' (entries_of seat ran)

@@ -1,4 +1,5 @@
-//! Serving a link: the loop between a session and the two ends of what it serves.
+//! The loop that serves a session: it reads the input in pieces, feeds them to the session, and
+//! writes the replies.
 
 ghost use Rattle.std.specs.Prelude.{◌≡◌, ◌<◌, ◌≤◌, length, OnOk, IfErr};
 ghost use Rattle.ig_link.specs.States.{Gets};
@@ -13,13 +14,14 @@ use crate::session::{Session, Step};
 use ig_link::{Duplex, Gave, SendFault, Sink, Source, Take};
 use std::alloc::Global;
 
-/// The most bytes that a read takes.
+/// The most bytes that one read takes.
 const PIECE: usize = 65_536;
 
-/// The most bytes that a session takes.
+/// The most bytes that a session takes of its input.
 const BYTE_LIMIT: u64 = 1 << 48;
 
-/// How a session ends where its input does, with this many bytes missing to the next frame.
+/// How a session ends whose input has ended, where `missing` more bytes would complete the next
+/// length or frame.
 fn end_of_input(session: &Session, missing: usize) -> SessionEnd
     ensures { result ≡ end_at session.now missing }
 {
@@ -32,7 +34,8 @@ fn end_of_input(session: &Session, missing: usize) -> SessionEnd
     }
 }
 
-/// Takes the next piece of the input.
+/// Reads the next piece of the input and feeds it to the session. Returns how many bytes were taken
+/// in all, or the end of the session.
 fn take_piece<S: Source>(
     session: &mut Session,
     source: &mut S,
@@ -42,7 +45,8 @@ fn take_piece<S: Source>(
 ) -> Result<u64, SessionEnd>
     requires room { 0 < length buf.old }
     requires within { taken ≤ byte_limit }
-    ensures takes { TakesPiece session.old session.new (S.source source.old) (S.source source.new) taken missing result }
+    ensures takes { TakesPiece session.old session.new (S.source source.old) (S.source source.new)
+        taken missing result }
     ensures beside { S.sink_beside source.new ≡ S.sink_beside source.old }
 {
     if taken >= BYTE_LIMIT {
@@ -59,8 +63,8 @@ fn take_piece<S: Source>(
     }
 }
 
-/// Writes a whole piece, as [`ig_link::send_all`] does. The count of write faults stays where all of it was
-/// written.
+/// Writes the whole piece, as [`ig_link::send_all`] does. Where all of it was written, no write
+/// failed.
 fn send_all<K: Sink>(sink: &mut K, piece: &[u8]) -> Result<(), SendFault>
     ensures ok { OnOk result (Gets (K.sink sink.old) (K.sink sink.new) piece.now) }
     ensures counts { OnOk result ((K.sink sink.new).faults ≡ (K.sink sink.old).faults) }
@@ -77,7 +81,8 @@ fn send_all<K: Sink>(sink: &mut K, piece: &[u8]) -> Result<(), SendFault>
     Ok(())
 }
 
-/// Answers each whole frame, in order, and tells how many bytes are missing to the next.
+/// Answers each whole frame, in order. Returns how many more bytes complete the next length or
+/// frame, or the end of the session.
 fn answer_all<C: Caller, K: Sink>(
     alloc: Global,
     session: &mut Session,
@@ -85,8 +90,8 @@ fn answer_all<C: Caller, K: Sink>(
     sink: &mut K,
     taken: u64,
 ) -> Result<usize, SessionEnd>
-    ensures answers { AnswersAll C.stands (C.seat caller.old) caller.old caller.new session.old session.new
-        (K.sink sink.old) (K.sink sink.new) taken result }
+    ensures answers { AnswersAll C.stands (C.seat caller.old) caller.old caller.new
+        session.old session.new (K.sink sink.old) (K.sink sink.new) taken result }
     ensures seat { C.seat caller.new ≡ C.seat caller.old }
     ensures lent { C.lent caller.new ≡ C.lent caller.old }
     ensures kept { C.kept caller.new ≡ C.kept caller.old }
@@ -112,8 +117,8 @@ fn answer_all<C: Caller, K: Sink>(
     }
 }
 
-/// Serves a session over a source and a sink that are apart: takes pieces of the input, and answers each
-/// whole frame, in order, before it takes the next. Stops at the first cause.
+/// Serves a session with a separate source and sink: reads the input in pieces of at most 64 KiB,
+/// answers each whole frame, in order, and returns at the first thing that ends the session.
 pub fn serve_ends<C: Caller, S: Source, K: Sink>(
     alloc: Global,
     caller: &mut C,
@@ -121,8 +126,8 @@ pub fn serve_ends<C: Caller, S: Source, K: Sink>(
     sink: &mut K,
     _cfg: &SessionCfg,
 ) -> SessionEnd
-    ensures served { Served C.stands (C.seat caller.old) caller.old caller.new (S.source source.old) (S.source source.new)
-        (K.sink sink.old) (K.sink sink.new) result }
+    ensures served { Served C.stands (C.seat caller.old) caller.old caller.new
+        (S.source source.old) (S.source source.new) (K.sink sink.old) (K.sink sink.new) result }
     ensures seat { C.seat caller.new ≡ C.seat caller.old }
     ensures lent { C.lent caller.new ≡ C.lent caller.old }
     ensures kept { C.kept caller.new ≡ C.kept caller.old }
@@ -145,15 +150,15 @@ pub fn serve_ends<C: Caller, S: Source, K: Sink>(
     }
 }
 
-/// Serves a session over a link, as [`serve_ends`] does over two ends that are apart.
+/// Serves a session over one link, as [`serve_ends`] does with a separate source and sink.
 pub fn serve_link<C: Caller, L: Duplex>(
     alloc: Global,
     caller: &mut C,
     link: &mut L,
     _cfg: &SessionCfg,
 ) -> SessionEnd
-    ensures served { Served C.stands (C.seat caller.old) caller.old caller.new (L.source link.old) (L.source link.new)
-        (L.sink link.old) (L.sink link.new) result }
+    ensures served { Served C.stands (C.seat caller.old) caller.old caller.new
+        (L.source link.old) (L.source link.new) (L.sink link.old) (L.sink link.new) result }
     ensures seat { C.seat caller.new ≡ C.seat caller.old }
     ensures lent { C.lent caller.new ≡ C.lent caller.old }
     ensures kept { C.kept caller.new ≡ C.kept caller.old }
