@@ -20,6 +20,7 @@ use ig_base::{NoMemory, NoRoom, Octets};
 use std::alloc::Global;
 
 /// What a session did in a step.
+#[derive(Drop)]
 pub(crate) enum Step {
     /// There is no whole frame: this many more bytes complete its length, or the frame.
     More(usize),
