@@ -1,5 +1,5 @@
 -- The steps of a session.
-use Rattle.std.proofs.Common.{◌≡◌, ℕ, Bool, true, false, List, [], ◌∷◌, ◌++◌, Result, Ok, Err, OnOk, refl, sym, ap, ◌∙◌, subst, inl, inr}
+use Rattle.std.proofs.Common.{◌≡◌, ℕ, Bool, true, false, List, [], ◌∷◌, ◌++◌, Result, Ok, Err, OnOk, refl, sym, ap, ◌∙◌, subst, inr}
 use Rattle.ig_base.specs.declared.memory.NoMemory.{NoMemory}
 use Rattle.ig_base.specs.Frames as frames
 use Rattle.ig_session.specs.Caches.{Plain}

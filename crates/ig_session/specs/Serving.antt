@@ -1,5 +1,5 @@
 -- What serving a session does, as a whole and in each round of its loop.
-use Rattle.std.specs.Prelude.{◌≡◌, ℕ, ◌<◌, ◌≤◌, true, false, List, [], ◌++◌, length, Option, Some, Result, Ok, Err}
+use Rattle.std.specs.Prelude.{◌≡◌, ℕ, ◌<◌, ◌≤◌, true, false, List, [], ◌++◌, length, Some, Result, Ok, Err}
 use Rattle.ig_base.specs.Frames as frames
 use Rattle.ig_link.specs.States.{SourceState, SinkState, Rose, Gives, Gets}
 use Rattle.ig_session.specs.Caches.{Plain}
