@@ -97,7 +97,7 @@ pub record TakesPiece (old new : Session) (source source' : SourceState) (taken 
   pub continues : (input output : List ℕ) (results : List Ran) → length input ≡ taken → Waits old input output results missing
       → AfterTaking result new (input ++ bytes) output results
 
--- What each end says of the source. The count of read faults stays but at a read fault.
+-- What each end says of the source. The count of read faults is unchanged except at a read fault.
 abbrev pub SourceAt : SessionEnd → SourceState → SourceState → Type 0
 SourceAt ends.Ended old new = HasEnded old new
 SourceAt (ends.Truncated missing) old new = HasEnded old new
@@ -108,7 +108,7 @@ SourceAt ends.WriteFault old new = IsStillOpen old new
 SourceAt ends.ByteLimit old new = IsStillOpen old new
 SourceAt ends.NoMemory old new = new.faults ≡ old.faults
 
--- What each end says of the sink. The count of write faults stays but at a write fault.
+-- What each end says of the sink. The count of write faults is unchanged except at a write fault.
 abbrev pub SinkAt : SessionEnd → SinkState → SinkState → Type 0
 SinkAt ends.Ended old new = new.faults ≡ old.faults
 SinkAt (ends.Truncated missing) old new = new.faults ≡ old.faults

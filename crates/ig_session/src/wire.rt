@@ -112,7 +112,8 @@ fn put_refused(out: &mut Octets) -> Result<(), NoMemory>
 
 /// Appends the frame of the reply to a hello.
 pub(crate) fn put_hello_reply(out: &mut Octets, is_accepted: bool) -> Result<(), NoMemory>
-    ensures { OnOk result (out.new ≡ out.old ++ Frame (if is_accepted then accepting else refusing)) }
+    ensures { OnOk result (out.new
+        ≡ out.old ++ Frame (if is_accepted then accepting else refusing)) }
 {
     if is_accepted {
         put_accepted(out)
