@@ -1,5 +1,5 @@
 -- Answering all whole frames.
-use Rattle.std.proofs.Common.{◌≡◌, ◌⊎◌, inl, inr, ℕ, ◌+◌, ◌-◌, ◌<◌, Bool, true, false, List, [], ◌++◌, ℤ, length, length-append, take, Result, Ok, Err, refl, sym, ap, ◌∙◌, subst, arith, append_assoc, append-nil}
+use Rattle.std.proofs.Common.{◌≡◌, inl, inr, ℕ, ◌+◌, ◌-◌, ◌<◌, Bool, true, false, List, [], ◌++◌, ℤ, length, length-append, take, Result, Ok, Err, refl, sym, ap, ◌∙◌, subst, arith, append_assoc, append-nil}
 use Rattle.std.proofs.lemmas.Grind.{flat_map-append}
 use Rattle.std.proofs.lemmas.List.{length-drop}
 use Rattle.ig_base.proofs.FrameLemmas.{front-inside}
@@ -7,15 +7,15 @@ use Rattle.std.specs.List.{flat_map}
 use Rattle.ig_base.specs.declared.memory.NoMemory.{NoMemory}
 use Rattle.ig_base.specs.Numbers.{AreBytes}
 use Rattle.ig_base.specs.Frames as frames
-use Rattle.ig_link.specs.States.{SinkState, Gets}
-use Rattle.ig_link.specs.Calls.{SentPart}
-use Rattle.ig_link.proofs.StateLemmas.{Gets-nothing, Gets-then, Rose-after}
+use Rattle.ig_link.specs.States.{SinkState, SinkAdvances}
+use Rattle.ig_link.specs.WritesAs.{SentPart}
+use Rattle.ig_link.proofs.StateLemmas.{SinkAdvances-nothing, SinkAdvances-then, Rose-after}
 use Rattle.ig_session.specs.Caches.{Plain}
 use Rattle.ig_session.specs.Histories.{Entry, StandsOn}
 use Rattle.ig_session.specs.Deals.{Ran, entries_of, entry_of}
 use Rattle.ig_session.specs.Serves.{Runs}
 use Rattle.ig_session.specs.Bodies.{least_of, IsAt}
-use Rattle.ig_session.specs.Sessions.{Stands, ReadsBody, Steps}
+use Rattle.ig_session.specs.Sessions.{Stands, ReadsBody, StepsTo, Steps}
 use Rattle.ig_session.specs.Serving.{AnswersAll}
 use Rattle.ig_session.specs.declared.wire.HelloFault.{HelloFault}
 use Rattle.ig_session.specs.declared.session.Session.{Session}
@@ -23,14 +23,14 @@ use Rattle.ig_session.specs.declared.session.Step.{Step}
 use Rattle.ig_session.specs.declared.session.Step.TheVariants as steps
 use Rattle.ig_session.specs.declared.end.SessionEnd.{SessionEnd}
 use Rattle.ig_session.specs.declared.end.SessionEnd.TheVariants as ends
-use Rattle.ig_session.proofs.AnswerLemmas.{stands_still}
+use Rattle.ig_session.proofs.AnswerLemmas.{StandsOn-nothing}
 use Rattle.ig_session.proofs.ServeLemmas.{goes_on, cut_off, refuses, ends_whole, all_shown, goes, least_same}
 
 pub entries-append : (seat : ℕ) (xs ys : List Ran) → entries_of seat (xs ++ ys) ≡ entries_of seat xs ++ entries_of seat ys
 entries-append seat xs ys = flat_map-append (λ (r : Ran). entry_of seat r.call r.got) xs ys
 
-pub stands_then : {C : Type 0} (stands : C → Plain → List Entry → Type 0) (a b c : C) (xs ys : List Entry) → StandsOn stands a b xs → StandsOn stands b c ys → StandsOn stands a c (xs ++ ys)
-stands_then stands a b c xs ys first second = record {
+pub StandsOn-then : {C : Type 0} (stands : C → Plain → List Entry → Type 0) (a b c : C) (xs ys : List Entry) → StandsOn stands a b xs → StandsOn stands b c ys → StandsOn stands a c (xs ++ ys)
+StandsOn-then stands a b c xs ys first second = record {
   keeps = λ start own h. subst (stands c start) (append_assoc own xs ys) (second.keeps start (own ++ xs) (first.keeps start own h));
 }
 
@@ -39,12 +39,14 @@ pub record Since {C : Type 0} (stands : C → Plain → List Entry → Type 0) (
   pub ran : List Ran
   pub out : List ℕ
   pub keeps : StandsOn stands caller caller' (entries_of seat ran)
-  pub gets : Gets sink sink' out
-  pub story : (input output : List ℕ) (results : List Ran) → Stands old input output results → Stands new input (output ++ out) (results ++ ran)
+  pub gets : SinkAdvances sink sink' out
+  pub counts : sink'.faults ≡ sink.faults
+  pub continues : (input output : List ℕ) (results : List Ran) → Stands old input output results → Stands new input (output ++ out) (results ++ ran)
 
 repacked : (old new : Session) (input output : List ℕ) (results : List Ran) → old.frames ≡ new.frames → old.is_open ≡ new.is_open → Stands old input output results → Stands new input output results
 repacked old new input output results fs os s = record {
   bodies = s.bodies;
+  within = s.within;
   begins = subst (λ (l : List ℕ). frames.Begins frames.client input s.bodies l) fs s.begins;
   stage = subst (λ (b : Bool). IsAt b s.bodies) os s.stage;
   handed_out = s.handed_out;
@@ -67,15 +69,16 @@ module _ {C : Type 0} (stands : C → Plain → List Entry → Type 0) (seat : �
   since_start caller state sink = record {
     ran = [];
     out = [];
-    keeps = stands_still stands caller;
-    gets = Gets-nothing sink;
-    story = λ input output results s. subst (λ (l : List Ran). Stands state input (output ++ []) l) (sym (append-nil results))
+    keeps = StandsOn-nothing stands caller;
+    gets = SinkAdvances-nothing sink;
+    counts = refl;
+    continues = λ input output results s. subst (λ (l : List Ran). Stands state input (output ++ []) l) (sym (append-nil results))
         (subst (λ (l : List ℕ). Stands state input l results) (sym (append-nil output)) s);
   }
 
   -- calls that were run, and bytes that were written, after those before
   pub joins_keeps : (a b c : C) (xs ys : List Ran) → StandsOn stands a b (entries_of seat xs) → StandsOn stands b c (entries_of seat ys) → StandsOn stands a c (entries_of seat (xs ++ ys))
-  joins_keeps a b c xs ys first second = subst (StandsOn stands a c) (sym (entries-append seat xs ys)) (stands_then stands a b c (entries_of seat xs) (entries_of seat ys) first second)
+  joins_keeps a b c xs ys first second = subst (StandsOn stands a c) (sym (entries-append seat xs ys)) (StandsOn-then stands a b c (entries_of seat xs) (entries_of seat ys) first second)
 
   -- all that was run
   all_kept : (a b c : C) (first old new : Session) (s0 s1 : SinkState) (result : Result Step NoMemory) (since : Since stands seat a b first old s0 s1) (st : Steps stands seat b c old new result)
@@ -89,14 +92,15 @@ module _ {C : Type 0} (stands : C → Plain → List Entry → Type 0) (seat : �
 
   -- a reply was sent whole
   pub since_out : (a b c : C) (first old new after : Session) (s0 s1 s2 : SinkState) → Since stands seat a b first old s0 s1 → Steps stands seat b c old new (Ok steps.Out)
-      → Gets s1 s2 new.reply → after.frames ≡ new.frames → after.is_open ≡ new.is_open → Since stands seat a c first after s0 s2
-  since_out a b c first old new after s0 s1 s2 since st sent same_frames same_open = record {
+      → SinkAdvances s1 s2 new.reply → s2.faults ≡ s1.faults → after.frames ≡ new.frames → after.is_open ≡ new.is_open → Since stands seat a c first after s0 s2
+  since_out a b c first old new after s0 s1 s2 since st sent counts same_frames same_open = record {
     ran = since.ran ++ st.ran;
     out = since.out ++ new.reply;
     keeps = all_kept a b c first old new s0 s1 (Ok steps.Out) since st;
-    gets = Gets-then since.gets sent;
-    story = λ input output results s.
-        let on = goes_on old new input (output ++ since.out) (results ++ since.ran) st.ran st.step.0 (since.story input output results s) st.step.1 st.step.2 st.step.3 in
+    gets = SinkAdvances-then since.gets sent;
+    counts = counts ∙ since.counts;
+    continues = λ input output results s.
+        let on = goes_on old new input (output ++ since.out) (results ++ since.ran) st.ran st.step.0 (since.continues input output results s) st.step.1 st.step.2 st.step.3 in
         repacked new after input (output ++ (since.out ++ new.reply)) (results ++ (since.ran ++ st.ran)) (sym same_frames) (sym same_open)
         (subst (λ (l : List Ran). Stands new input (output ++ (since.out ++ new.reply)) l) (append_assoc results since.ran st.ran)
         (subst (λ (l : List ℕ). Stands new input l (results ++ since.ran ++ st.ran)) (append_assoc output since.out new.reply) on));
@@ -110,9 +114,9 @@ module _ {C : Type 0} (stands : C → Plain → List Entry → Type 0) (seat : �
     out = since.out;
     keeps = none_more a b c first old new s0 s1 (Ok (steps.More missing)) since st st.step.0;
     gets = since.gets;
-    cause = tt;
-    story = λ input output results counts s.
-        let on = repacked old new input (output ++ since.out) (results ++ since.ran) (sym st.step.1) (sym st.step.2) (since.story input output results s) in
+    cause = since.counts;
+    continues = λ input output results counts s.
+        let on = repacked old new input (output ++ since.out) (results ++ since.ran) (sym st.step.1) (sym st.step.2) (since.continues input output results s) in
         record {
           stands = on;
           part = ap (λ b. frames.front (least_of b) new.frames) st.step.2 ∙ ap (frames.front (least_of old.is_open)) st.step.1 ∙ st.step.3;
@@ -127,9 +131,9 @@ module _ {C : Type 0} (stands : C → Plain → List Entry → Type 0) (seat : �
     out = since.out;
     keeps = none_more a b c first old new s0 s1 (Ok (steps.Bad len)) since st st.step.0;
     gets = since.gets;
-    cause = tt;
-    story = λ input output results counts s.
-        let on = repacked old new input (output ++ since.out) (results ++ since.ran) (sym st.step.1) (sym st.step.2) (since.story input output results s) in
+    cause = since.counts;
+    continues = λ input output results counts s.
+        let on = repacked old new input (output ++ since.out) (results ++ since.ran) (sym st.step.1) (sym st.step.2) (since.continues input output results s) in
         let whole = ap length on.begins.whole ∙ length-append (flat_map frames.Frame on.bodies) new.frames in
         let found = ap (λ n. frames.front n new.frames) (least_same new.is_open on.bodies on.stage)
         ∙ ap (λ b. frames.front (least_of b) new.frames) st.step.2 ∙ ap (frames.front (least_of old.is_open)) st.step.1 ∙ st.step.3 in
@@ -139,16 +143,16 @@ module _ {C : Type 0} (stands : C → Plain → List Entry → Type 0) (seat : �
 
   -- the reply to a hello that is refused was sent whole
   pub since_refused : (a b c : C) (first old new after : Session) (s0 s1 s2 : SinkState) (taken : ℕ) (fault : HelloFault) → Since stands seat a b first old s0 s1
-      → Steps stands seat b c old new (Ok (steps.Refused fault)) → Gets s1 s2 new.reply → AnswersAll stands seat a c first after s0 s2 taken (Err (ends.HelloRefused fault))
-  since_refused a b c first old new after s0 s1 s2 taken fault since st sent = record {
+      → Steps stands seat b c old new (Ok (steps.Refused fault)) → SinkAdvances s1 s2 new.reply → s2.faults ≡ s1.faults → AnswersAll stands seat a c first after s0 s2 taken (Err (ends.HelloRefused fault))
+  since_refused a b c first old new after s0 s1 s2 taken fault since st sent counts = record {
     ran = since.ran ++ st.ran;
     out = since.out ++ new.reply;
     keeps = all_kept a b c first old new s0 s1 (Ok (steps.Refused fault)) since st;
-    gets = Gets-then since.gets sent;
-    cause = tt;
-    story = λ input output results counts s.
+    gets = SinkAdvances-then since.gets sent;
+    cause = counts ∙ since.counts;
+    continues = λ input output results counts s.
         regrouped input output since.out new.reply results since.ran st.ran (ends.HelloRefused fault)
-        (refuses old new input (output ++ since.out) (results ++ since.ran) st.ran st.step.0 fault (since.story input output results s) st.step.1 st.step.2 st.step.3 st.step.4);
+        (refuses old new input (output ++ since.out) (results ++ since.ran) st.ran st.step.0 fault (since.continues input output results s) st.step.1 st.step.2 st.step.3 st.step.4);
   }
 
   -- the sink failed within a reply
@@ -158,11 +162,14 @@ module _ {C : Type 0} (stands : C → Plain → List Entry → Type 0) (seat : �
     ran = since.ran ++ st.ran;
     out = since.out ++ take sent frame;
     keeps = all_kept a b c first old new s0 s1 result since st;
-    gets = Gets-then since.gets fault.gets;
-    cause = (Rose-after s0.faults s1.faults s2.faults since.gets.faults fault.rose, held_not s0.holds s1.holds since.gets.holds fault.holds_not);
-    story = λ input output results counts s.
+    gets = SinkAdvances-then since.gets fault.gets;
+    cause = record {
+      rose = Rose-after s0.faults s1.faults s2.faults since.gets.faults fault.rose;
+      holds_not = held_not s0.holds s1.holds since.gets.holds fault.holds_not;
+    };
+    continues = λ input output results counts s.
         regrouped input output since.out (take sent frame) results since.ran st.ran ends.WriteFault
-        (cut_off old ends.WriteFault input (output ++ since.out) (results ++ since.ran) st.ran body left frame sent (since.story input output results s) read (λ fs o p. p) (λ i bs a. tt));
+        (cut_off old ends.WriteFault input (output ++ since.out) (results ++ since.ran) st.ran body left frame sent (since.continues input output results s) read (λ fs o p. p) (λ i bs a. tt));
   }
 
   pub since_fault : (a b c : C) (first old new after : Session) (s0 s1 s2 : SinkState) (taken sent : ℕ) → Since stands seat a b first old s0 s1 → Steps stands seat b c old new (Ok steps.Out)
@@ -176,15 +183,15 @@ module _ {C : Type 0} (stands : C → Plain → List Entry → Type 0) (seat : �
       faulted a b c first old new after s0 s1 s2 taken sent (Ok (steps.Refused why)) st.step.0 new.frames new.reply since st st.step.1 fault
 
   -- there was no memory for a request, or for a reply
-  none_told : (old : Session) (input output more : List ℕ) (results xs ys : List Ran) → Stands old input (output ++ more) (results ++ xs) → (ys ≡ []) ⊎ ((body after frame : List ℕ) × ReadsBody old body after ys frame)
+  none_told : (old new : Session) (e : NoMemory) (input output more : List ℕ) (results xs ys : List Ran) → Stands old input (output ++ more) (results ++ xs) → StepsTo (Err e) old new ys
       → Runs input (output ++ more) (results ++ (xs ++ ys)) ends.NoMemory
-  none_told old input output more results xs ys s (inl none) =
-      let same : results ++ xs ≡ results ++ (xs ++ ys) = ap (λ (l : List Ran). results ++ l) (sym (ap (λ l. xs ++ l) none ∙ append-nil xs)) in
+  none_told old new e input output more results xs ys s (inl unread) =
+      let same : results ++ xs ≡ results ++ (xs ++ ys) = ap (λ (l : List Ran). results ++ l) (sym (ap (λ l. xs ++ l) unread.none ∙ append-nil xs)) in
       subst (λ (l : List Ran). Runs input (output ++ more) l ends.NoMemory) same (ends_whole old ends.NoMemory input (output ++ more) (results ++ xs) s tt all_shown)
-  none_told old input output more results xs ys s (inr read) =
+  none_told old new e input output more results xs ys s (inr read) =
       subst (λ (l : List ℕ). Runs input (output ++ l) (results ++ (xs ++ ys)) ends.NoMemory) (append-nil more)
       (regrouped input output more [] results xs ys ends.NoMemory
-      (cut_off old ends.NoMemory input (output ++ more) (results ++ xs) ys read.0 read.1 read.2 0 s read.3 (λ fs o p. p) (λ i bs a. tt)))
+      (cut_off old ends.NoMemory input (output ++ more) (results ++ xs) ys read.0 new.frames read.1 0 s read.2 (λ fs o p. p) (λ i bs a. tt)))
 
   pub since_none : (a b c : C) (first old new after : Session) (s0 s1 : SinkState) (taken : ℕ) (e : NoMemory) → Since stands seat a b first old s0 s1 → Steps stands seat b c old new (Err e)
       → AnswersAll stands seat a c first after s0 s1 taken (Err ends.NoMemory)
@@ -193,8 +200,8 @@ module _ {C : Type 0} (stands : C → Plain → List Entry → Type 0) (seat : �
     out = since.out;
     keeps = all_kept a b c first old new s0 s1 (Err e) since st;
     gets = since.gets;
-    cause = tt;
-    story = λ input output results counts s. none_told old input output since.out results since.ran st.ran (since.story input output results s) st.step;
+    cause = since.counts;
+    continues = λ input output results counts s. none_told old new e input output since.out results since.ran st.ran (since.continues input output results s) st.step;
   }
 
 pub at_step : {C : Type 0} (stands : C → Plain → List Entry → Type 0) (seat seat' : ℕ) (caller caller' : C) (old new : Session) (step step' : Step) → seat ≡ seat' → step ≡ step'
@@ -202,7 +209,7 @@ pub at_step : {C : Type 0} (stands : C → Plain → List Entry → Type 0) (sea
 at_step stands seat seat' caller caller' old new step step' e f st =
     subst (λ (s : ℕ). Steps stands s caller caller' old new (Ok step')) e (subst (λ (t : Step). Steps stands seat caller caller' old new (Ok t)) f st)
 
--- a frame that was read is gone
+-- a frame that was read is no longer in the input
 pub steps_shorter : {C : Type 0} (stands : C → Plain → List Entry → Type 0) (seat : ℕ) (caller caller' : C) (old new : Session) → Steps stands seat caller caller' old new (Ok steps.Out)
     → length new.frames < length old.frames
 steps_shorter stands seat caller caller' old new st =

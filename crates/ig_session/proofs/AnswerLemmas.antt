@@ -17,8 +17,8 @@ use Rattle.ig_session.specs.declared.ops.Ask.TheVariants.{Run, Refuse}
 use Rattle.ig_session.specs.declared.ops.Asked.{Asked}
 
 -- nothing was run
-pub stands_still : {C : Type 0} (stands : C → Plain → List Entry → Type 0) (caller : C) → StandsOn stands caller caller []
-stands_still stands caller = record { keeps = λ start own h. subst (stands caller start) (sym (append-nil own)) h }
+pub StandsOn-nothing : {C : Type 0} (stands : C → Plain → List Entry → Type 0) (caller : C) → StandsOn stands caller caller []
+StandsOn-nothing stands caller = record { keeps = λ start own h. subst (stands caller start) (sym (append-nil own)) h }
 
 module _ {C : Type 0} (stands : C → Plain → List Entry → Type 0) (seat : ℕ) (asked : Asked) (result : Result (Unit {0}) NoMemory) (before after : List ℕ) where
   asks_so : (ask : Ask) → asked.ask ≡ ask → record { id = asked.id; ask = ask } ≡ asked
@@ -28,7 +28,7 @@ module _ {C : Type 0} (stands : C → Plain → List Entry → Type 0) (seat : �
       → Answers stands seat caller caller asked result before after
   answers_refused caller why e written = subst (λ (a : Asked). Answers stands seat caller caller a result before after) (asks_so (Refuse why) e) (record {
     ran = [];
-    keeps = stands_still stands caller;
+    keeps = StandsOn-nothing stands caller;
     handed_out = refl;
     frame = reply_frame asked.id (refused why);
     is_reply = refl;

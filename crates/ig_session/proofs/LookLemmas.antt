@@ -1,10 +1,10 @@
--- What a look at a stream finds.
+-- What a stream begins with.
 use Rattle.std.proofs.Common.{◌≡◌, ℕ, ℤ, pos, negsuc, ◌+◌, ◌-◌, ◌≤◌, ◌&&◌, List, length, length-take-le, take, drop, Option, None, Some, sym, ap, ◌∙◌, arith, inl, inr}
 use Rattle.std.specs.Prelude.{nat_lt, nat_le}
 use Rattle.std.specs.Int.{w32}
 use Rattle.std.proofs.lemmas.Bool.{cases_Bool, cases_lt, cond-true, cond-false, le-ltb, lt-ltb, leb-true, and_parts}
 use Rattle.ig_base.specs.Numbers.{number_at}
-use Rattle.ig_base.specs.Frames.{Body, Bad, Part, front, front_from, front_sized, max_body}
+use Rattle.ig_base.specs.Frames.{Body, Bad, Incomplete, front, front_from, front_sized, max_body}
 use Rattle.ig_base.proofs.FrameLemmas.{front-inside}
 use Rattle.ig_session.specs.Looks.{len_in_range}
 
@@ -25,7 +25,7 @@ unfolding front
 look_body least bytes z len read range long =
     ap (front_from least bytes) read ∙ sized least bytes z len range ∙ cond-false (nat_lt (length (drop 4 bytes)) len) _ _ (le-ltb _ _ long)
 
--- behind a whole frame that is found stands what follows it
+-- after a whole frame that is found comes the rest of the stream
 pub passed : (least : ℕ) (bytes body new : List ℕ) (after : List ℕ) → front least bytes ≡ Body body after → new ≡ drop (4 + length body) bytes → front least bytes ≡ Body body new
 passed least bytes body new after found gone = found ∙ ap (Body body) (sym (gone ∙ (front-inside least bytes body after found).1))
 
@@ -34,9 +34,9 @@ inside least bytes body after found = (front-inside least bytes body after found
 
 sized_length : (n : ℕ) (bytes body rest : List ℕ) → front_sized n bytes ≡ Body body rest → length body ≡ n
 sized_length n bytes body rest h = elim (cases_lt (length bytes) n) [
-  | inl short ↦ let part = cond-true (nat_lt (length bytes) n) (Part (n - length bytes)) (Body (take n bytes) (drop n bytes)) (lt-ltb _ _ short) in cc
+  | inl short ↦ let part = cond-true (nat_lt (length bytes) n) (Incomplete (n - length bytes)) (Body (take n bytes) (drop n bytes)) (lt-ltb _ _ short) in cc
   | inr long ↦
-      let whole = cond-false (nat_lt (length bytes) n) (Part (n - length bytes)) (Body (take n bytes) (drop n bytes)) (le-ltb _ _ long) in
+      let whole = cond-false (nat_lt (length bytes) n) (Incomplete (n - length bytes)) (Body (take n bytes) (drop n bytes)) (le-ltb _ _ long) in
       let same : body ≡ take n bytes = cc in
       ap length same ∙ length-take-le n bytes long
 ]

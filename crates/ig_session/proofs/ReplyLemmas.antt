@@ -12,12 +12,12 @@ use Rattle.ig_session.specs.Replies.{Shown, reply, reply_frame, too_long}
 pub length-string : (text : List ℕ) → length (string text) ≡ 5 + length text
 length-string text = omega (arith, length-append (LE w32 (pos (length text))) text, length-LE_32 (pos (length text)))
 
--- a body behind its length is a frame
+-- a length and a body of this length are a frame
 pub framed : (out body : List ℕ) (n : ℕ) → length body ≡ n → out ++ LE w32 (pos n) ++ body ≡ out ++ Frame body
 unfolding Frame
 framed out body n e = append_assoc out (LE w32 (pos n)) body ∙ ap (λ k. out ++ (LE w32 (pos k) ++ body)) (sym e)
 
--- the bytes of a reply laid end to end
+-- the parts of a reply, written one after another
 pub replied : (out : List ℕ) (id status : ℤ) (bytes : List ℕ) (n : ℕ) → 12 + length bytes ≡ n
     → out ++ LE w32 (pos n) ++ LE w64 id ++ LE w32 status ++ bytes ≡ out ++ Frame (LE w64 id ++ LE w32 status ++ bytes)
 replied out id status bytes n e =
@@ -32,7 +32,7 @@ replied out id status bytes n e =
 length-body : (id status : ℤ) (bytes : List ℕ) → length (LE w64 id ++ LE w32 status ++ bytes) ≡ 12 + length bytes
 length-body id status bytes = omega (arith, length-append (LE w64 id ++ LE w32 status) bytes, length-append (LE w64 id) (LE w32 status), length-LE_64 id, length-LE_32 status)
 
--- a reply that is short enough stands as it is
+-- a reply that is short enough is sent as it is
 whole_reply : (id : ℤ) (shown : Shown) → length (reply id shown) ≤ max_body → Frame (reply id shown) ≡ reply_frame id shown
 whole_reply id shown short = ap Frame (sym (cond-true (nat_le (length (reply id shown)) max_body) (reply id shown) (reply id too_long) (le-leb _ _ short)))
 
@@ -47,7 +47,7 @@ fault_framed out id status reason n e short =
     replied out id status (string reason) n (omega (arith, e, length-string reason))
     ∙ ap (λ (l : List ℕ). out ++ l) (whole_reply id (Shown.Fault status reason) (omega (arith, e, short, length-body id status (string reason), length-string reason)))
 
--- a reply that is too long gives way
+-- in the place of a reply that is too long, the fault is sent
 pub gives_way : (id : ℤ) (bytes : List ℕ) → max_body < 12 + length bytes → reply_frame id too_long ≡ reply_frame id (Shown.Result bytes)
 gives_way id bytes long =
     let shown : Shown = Shown.Result bytes in

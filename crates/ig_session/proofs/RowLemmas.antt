@@ -1,4 +1,4 @@
--- Rows by the canonical forms of their keys.
+-- Rows by the canonical encodings of their keys.
 use Rattle.std.proofs.Common.{◌≡◌, ℕ, Bool, true, false, cond, List, [], ◌∷◌, map, Option, None, Some, Result, Ok, Err, IfOk, refl, sym, ap, ◌∙◌, subst, inl, inr, append-nil, option_map}
 use Rattle.std.proofs.lemmas.Bool.{cases_Bool, cond-true, cond-false}
 use Rattle.std.specs.Ordering.{nat_cmp, is_eq, eq_by_cmp, match_ordering}
@@ -48,7 +48,7 @@ again : {X : Type 0} (a : Bool) (x y z : X) → cond a x (cond a y z) ≡ cond a
 again true x y z = refl
 again false x y z = refl
 
--- a canonical form is read as its key
+-- a canonical encoding is read as its key
 key_of-Canon : (key : Value) → Fits key → key_of (Canon key) ≡ key
 unfolding reading Spells
 key_of-Canon key fits = ap (λ (l : List ℕ). read_key (reading l)) (sym (append-nil (Canon key))) ∙ ap read_key ((value_agrees 32).again (Canon key) key [] (canon_spells key fits))

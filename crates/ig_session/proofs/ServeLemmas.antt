@@ -1,22 +1,23 @@
 -- A session between its steps.
-use Rattle.std.proofs.Common.{◌≡◌, ℕ, Bool, true, false, List, [], ◌∷◌, ◌++◌, take, drop, refl, sym, ap, ◌∙◌, subst, arith, append-nil, take-append-drop}
+use Rattle.std.proofs.Common.{◌≡◌, ℕ, Bool, true, false, List, [], ◌∷◌, ◌++◌, ◌≤◌, length, take, drop, refl, sym, ap, ◌∙◌, subst, arith, append-nil, take-append-drop}
 use Rattle.std.proofs.lemmas.Grind.{flat_map-append}
 use Rattle.ig_base.specs.Numbers.{AreBytes}
 use Rattle.ig_base.specs.Frames as frames
 use Rattle.ig_base.specs.Frames.{client, least_after, Begins, IsBody}
 use Rattle.ig_base.proofs.FrameLemmas.{Begins-more, Begins-pass, front-reads, rest_bytes, append_bytes}
-use Rattle.ig_session.specs.Hellos.{is_accepted, asked_version}
+use Rattle.ig_session.specs.Hellos.{is_accepted, asked_version, hello_frame}
 use Rattle.ig_session.specs.Requests.{ask_of}
-use Rattle.ig_session.specs.Deals.{Ran, handed, gots, asks, calls, out_frames}
-use Rattle.ig_session.specs.Serves.{joined, IsOpen, IsGoing, IsRefused, IsWaiting, EndsBy, ShowsPart, Shows, Runs}
+use Rattle.ig_session.specs.Deals.{Ran, handed, gots, asks, calls, replies, out_frames}
+use Rattle.ig_session.specs.Serves.{byte_limit, joined, IsOpen, IsGoing, IsRefused, IsWaiting, EndsBy, ShowsPart, Shows, Runs}
 use Rattle.ig_session.specs.Bodies.{least_of, IsAt, AnswersBody, accepts}
 use Rattle.ig_session.specs.Sessions.{Stands, ReadsBody}
+use Rattle.ig_session.specs.declared.ops.Asked.{Asked}
 use Rattle.ig_session.specs.declared.session.Session.{Session}
 use Rattle.ig_session.specs.declared.end.SessionEnd.{SessionEnd}
 use Rattle.ig_session.specs.declared.end.SessionEnd.TheVariants as ends
 use Rattle.ig_session.specs.declared.wire.HelloFault.{HelloFault}
 use Rattle.ig_session.specs.declared.wire.HelloFault.TheVariants.{Version}
-use Rattle.ig_session.proofs.DealLemmas.{asks-push, handed-push, out_frames-push}
+use Rattle.ig_session.proofs.DealLemmas.{asks_none, asks-push, handed-push, out_frames-push}
 
 joined-append : (xs ys : List (List ℕ)) → joined (xs ++ ys) ≡ joined xs ++ joined ys
 joined-append xs ys = flat_map-append (λ f. f) xs ys
@@ -38,7 +39,7 @@ none_handed : (results : List Ran) → handed results ≡ [] → results ≡ []
 none_handed [] e = refl
 none_handed (r ∷ results) e = cc
 
--- what stands once the next body was read
+-- what holds once the next body was read
 pub record Read (input output : List ℕ) (results ran : List Ran) (bodies : List (List ℕ)) (b : Bool) (body after frame : List ℕ) : Type 0 where
   pub now : List (List ℕ)
   pub begins : Begins client input now after
@@ -54,12 +55,17 @@ read_more : (bodies : List (List ℕ)) (b : Bool) (body frame : List ℕ) (resul
 read_more [] false body frame results ran none e answers =
     let empty : results ≡ [] = none_handed results e in
     let all : results ++ ran ≡ [] = ap (λ l. l ++ ran) empty ∙ answers.0 in
-    (ap handed all, ap (λ (l : List Ran). out_frames (body ∷ []) (gots l)) all ∙ ap (λ f. f ∷ []) (sym answers.1), λ h. h, λ x other. (other, refl, refl))
+    let asked : asks (body ∷ []) ≡ [] = asks_none body in (
+      ap handed all ∙ ap calls (sym asked),
+      ap (λ (l : List Ran). out_frames (body ∷ []) (gots l)) all ∙ ap (λ (l : List Asked). hello_frame body ∷ replies l []) asked ∙ ap (λ f. f ∷ []) (sym answers.1),
+      λ h. h,
+      λ x other. (other, refl, refl),
+    )
 read_more (greeting ∷ bodies) false body frame results ran none e answers = cc
 read_more [] true body frame results ran is e answers = absurd is
 read_more (greeting ∷ bodies) true body frame results ran is e answers = (
-  handed-push results ran (asks (greeting ∷ bodies)) (ask_of body ∷ []) e answers.0 ∙ ap calls (sym (asks-push greeting body bodies)),
-  out_frames-push greeting body frame bodies results ran e answers.1,
+  handed-push results ran (asks (greeting ∷ bodies)) (ask_of body ∷ []) e answers.0 ∙ ap calls (sym (asks-push greeting body bodies is)),
+  out_frames-push greeting body frame bodies results ran is e answers.1,
   λ h. is,
   λ x other. cc,
 )
@@ -91,6 +97,7 @@ goes_on old new input output results ran body s r fits opens =
     let read = reads old input output results ran body new.frames new.reply s r in
     record {
       bodies = read.now;
+      within = s.within;
       begins = read.begins;
       stage = subst (λ (b : Bool). IsAt b read.now) (sym opens) (read.is_open fits);
       handed_out = read.handed_out;
@@ -98,7 +105,7 @@ goes_on old new input output results ran body s r fits opens =
       are_bytes = read.are_bytes;
     }
 
--- a front of the reply was written
+-- a prefix of the reply was written
 part_shown : (output frame : List ℕ) (sent : ℕ) (old new : List (List ℕ)) → output ≡ joined old → new ≡ old ++ frame ∷ [] → ShowsPart new (output ++ take sent frame)
 part_shown output frame sent old new e f = record {
   whole = old;
@@ -119,6 +126,7 @@ cut_off old end input output results ran body after frame sent s r part any =
     record {
       bodies = read.now;
       after = after;
+      within = s.within;
       begins = read.begins;
       ends_by = any input read.now after;
       handed_out = read.handed_out;
@@ -134,6 +142,7 @@ refuses old new input output results ran body fault s r closed other is =
     record {
       bodies = read.now;
       after = new.frames;
+      within = s.within;
       begins = read.begins;
       ends_by = subst (λ (f : HelloFault). IsRefused read.now (ends.HelloRefused f)) (sym is) (read.refused closed other);
       handed_out = read.handed_out;
@@ -143,7 +152,7 @@ refuses old new input output results ran body fault s r closed other is =
 -- ---- the session ends between two frames
 
 pub waiting : (state : Session) (input output : List ℕ) (results : List Ran) (missing : ℕ) → (s : Stands state input output results)
-    → frames.front (least_of state.is_open) state.frames ≡ frames.Part missing → IsWaiting s.bodies state.frames missing
+    → frames.front (least_of state.is_open) state.frames ≡ frames.Incomplete missing → IsWaiting s.bodies state.frames missing
 waiting state input output results missing s part = record {
   going = goes state.is_open s.bodies s.stage;
   part = ap (λ n. frames.front n state.frames) (least_same state.is_open s.bodies s.stage) ∙ part;
@@ -154,6 +163,7 @@ pub ends_whole : (state : Session) (end : SessionEnd) (input output : List ℕ) 
 ends_whole state end input output results s by whole = record {
   bodies = s.bodies;
   after = state.frames;
+  within = s.within;
   begins = s.begins;
   ends_by = by;
   handed_out = s.handed_out;
@@ -173,10 +183,11 @@ all_shown fs o e = record {
 }
 
 -- more of the input came
-pub fed : (old new : Session) (input output more : List ℕ) (results : List Ran) → Stands old input output results → new.frames ≡ old.frames ++ more → new.is_open ≡ old.is_open → AreBytes more
+pub fed : (old new : Session) (input output more : List ℕ) (results : List Ran) → Stands old input output results → length (input ++ more) ≤ byte_limit → new.frames ≡ old.frames ++ more → new.is_open ≡ old.is_open → AreBytes more
     → Stands new (input ++ more) output results
-fed old new input output more results s grown same are = record {
+fed old new input output more results s within grown same are = record {
   bodies = s.bodies;
+  within = within;
   begins = subst (λ (l : List ℕ). Begins client (input ++ more) s.bodies l) (sym grown) (Begins-more s.begins more);
   stage = subst (λ (b : Bool). IsAt b s.bodies) (sym same) s.stage;
   handed_out = s.handed_out;

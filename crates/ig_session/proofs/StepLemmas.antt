@@ -1,5 +1,5 @@
 -- The steps of a session.
-use Rattle.std.proofs.Common.{◌≡◌, ℕ, Bool, true, false, List, [], ◌∷◌, ◌++◌, Result, Ok, Err, OnOk, refl, sym, ap, ◌∙◌, subst, inl, inr}
+use Rattle.std.proofs.Common.{◌≡◌, ℕ, Bool, true, false, List, [], ◌∷◌, ◌++◌, Result, Ok, Err, OnOk, refl, sym, ap, ◌∙◌, subst, inr}
 use Rattle.ig_base.specs.declared.memory.NoMemory.{NoMemory}
 use Rattle.ig_base.specs.Frames as frames
 use Rattle.ig_session.specs.Caches.{Plain}
@@ -15,7 +15,7 @@ use Rattle.ig_session.specs.declared.wire.HelloFault.{HelloFault}
 use Rattle.ig_session.specs.declared.wire.HelloFault.TheVariants.{Version}
 use Rattle.ig_session.specs.declared.session.Session.{Session}
 use Rattle.ig_session.specs.declared.session.Step.TheVariants as steps
-use Rattle.ig_session.proofs.AnswerLemmas.{stands_still}
+use Rattle.ig_session.proofs.AnswerLemmas.{StandsOn-nothing}
 
 module _ {C : Type 0} (stands : C → Plain → List Entry → Type 0) (seat : ℕ) (caller caller' : C) (old new : Session) (body : List ℕ) where
   -- a request was read
@@ -40,13 +40,13 @@ module _ {C : Type 0} (stands : C → Plain → List Entry → Type 0) (seat : �
         step = (body, open_reads asked result new.reply was found is a (sym told), ap (λ b. accepts b body) was, stays ∙ was);
       }
 
-  pub open_err : (asked : Asked) (result : Result (Unit {0}) NoMemory) (e : NoMemory) → old.is_open ≡ true
+  pub open_err : (asked : Asked) (result : Result (Unit {0}) NoMemory) (e : NoMemory) → old.is_open ≡ true → new.is_open ≡ old.is_open
       → frames.front (least_of old.is_open) old.frames ≡ frames.Body body new.frames → asked ≡ ask_of body → Answers stands seat caller caller' asked result [] new.reply
       → Steps stands seat caller caller' old new (Err e)
-  open_err asked result e was found is a = record {
+  open_err asked result e was stays found is a = record {
     ran = a.ran;
     keeps = a.keeps;
-    step = inr (body, new.frames, a.frame, open_reads asked result a.frame was found is a refl);
+    step = inr (body, a.frame, open_reads asked result a.frame was found is a refl, stays ∙ was ∙ sym (ap (λ b. accepts b body) was));
   }
 
 module _ {C : Type 0} (stands : C → Plain → List Entry → Type 0) (seat : ℕ) (caller : C) (old new : Session) (body : List ℕ) where
@@ -58,25 +58,22 @@ module _ {C : Type 0} (stands : C → Plain → List Entry → Type 0) (seat : �
       → is_accepted body ≡ true → Steps stands seat caller caller old new (Ok steps.Out)
   hello_accepted was found told opens fits = record {
     ran = [];
-    keeps = stands_still stands caller;
+    keeps = StandsOn-nothing stands caller;
     step = (body, hello_reads new.reply was found told, ap (λ b. accepts b body) was ∙ fits, opens ∙ fits);
   }
 
-  pub hello_refused : (fault : HelloFault) → old.is_open ≡ false → frames.front (least_of old.is_open) old.frames ≡ frames.Body body new.frames → new.reply ≡ hello_frame body
+  pub hello_refused : (fault : HelloFault) → old.is_open ≡ false → frames.front (least_of old.is_open) old.frames ≡ frames.Body body new.frames → new.reply ≡ hello_frame body → new.is_open ≡ is_accepted body
       → is_accepted body ≡ false → fault ≡ Version (asked_version body) → Steps stands seat caller caller old new (Ok (steps.Refused fault))
-  hello_refused fault was found told other is = record {
+  hello_refused fault was found told opens other is = record {
     ran = [];
-    keeps = stands_still stands caller;
-    step = (body, hello_reads new.reply was found told, was, other, is);
+    keeps = StandsOn-nothing stands caller;
+    step = (body, hello_reads new.reply was found told, was, other, is, opens ∙ other);
   }
 
-  -- nothing was read
-  pub read_none : (e : NoMemory) → Steps stands seat caller caller old new (Err e)
-  read_none e = record { ran = []; keeps = stands_still stands caller; step = inl refl }
-
-  pub hello_err : (e : NoMemory) → old.is_open ≡ false → frames.front (least_of old.is_open) old.frames ≡ frames.Body body new.frames → Steps stands seat caller caller old new (Err e)
-  hello_err e was found = record {
+  pub hello_err : (e : NoMemory) → old.is_open ≡ false → frames.front (least_of old.is_open) old.frames ≡ frames.Body body new.frames → new.is_open ≡ is_accepted body
+      → Steps stands seat caller caller old new (Err e)
+  hello_err e was found opens = record {
     ran = [];
-    keeps = stands_still stands caller;
-    step = inr (body, new.frames, hello_frame body, hello_reads (hello_frame body) was found refl);
+    keeps = StandsOn-nothing stands caller;
+    step = inr (body, hello_frame body, hello_reads (hello_frame body) was found refl, opens ∙ sym (ap (λ b. accepts b body) was));
   }

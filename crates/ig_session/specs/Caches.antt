@@ -1,4 +1,4 @@
--- Plain caches: what a call answers, and what it leaves.
+-- Plain caches: finite maps from keys to values, what a call answers, and what it changes.
 use Rattle.std.specs.Prelude.{◌≢◌, ℕ, ℤ, pos, List, [], ◌∷◌, map, Option, None, Some, if◌then◌else◌}
 use Rattle.std.specs.Ordering.{nat_cmp, int_eq}
 use Rattle.std.specs.Cmp.Lexicographic.{slice_cmp}
@@ -16,17 +16,17 @@ use Rattle.ig_session.specs.declared.caches.Outcome.{Outcome}
 use Rattle.ig_session.specs.declared.caches.Outcome.TheVariants.{Done, Found, Refused}
 use Rattle.ig_session.specs.declared.caches.Answer.{Answer}
 
--- rows by the canonical forms of their keys, each with the key and its value
+-- rows by the canonical encodings of their keys, each with the key and its value
 abbrev pub Rows : Type 0
 Rows = finite.FinMap (slice_cmp nat_cmp) (Value × Value)
 
--- a cache, named by the hash of its name
+-- a cache, whose identifier is the hash of its name
 pub record Cache : Type 0 where
   pub id : ℤ
   pub name : List ℕ
   pub rows : Rows
 
--- the caches in the order of their creation, and how often one was created or destroyed
+-- the caches in the order of their creation, and how often a cache was created or destroyed
 pub record Plain : Type 0 where
   pub caches : List Cache
   pub minor : ℤ
@@ -56,18 +56,19 @@ value_in rows key = held (finite.get rows (Canon key))
 abbrev pub with_row : Rows → Value → Value → Rows
 with_row rows key value = finite.insert rows (Canon key) (key, value)
 
--- the caches where a row was put into the one with an identifier
+-- the caches, with a row put into the one with an identifier
 abbrev pub with_put : ℤ → Value → Value → List Cache → List Cache
 with_put id key value [] = []
 with_put id key value (cache ∷ caches) =
     if int_eq cache.id id then record { id = cache.id; name = cache.name; rows = with_row cache.rows key value } ∷ caches
     else cache ∷ with_put id key value caches
 
--- what a call finds at its cache
+-- what a get answers, by the cache that it names
 abbrev pub found_at : Option Cache → Value → Outcome
 found_at None key = Refused NoCache
 found_at (Some cache) key = Found (value_in cache.rows key)
 
+-- what a put answers, by the cache that it names
 abbrev pub done_at : Option Cache → Outcome
 done_at None = Refused NoCache
 done_at (Some cache) = Done
@@ -80,22 +81,23 @@ outcome_of caches (Put id key value) = done_at (cache_of id caches.caches)
 abbrev pub answered : Plain → Call → Answer
 answered caches call = record { minor = caches.minor; outcome = outcome_of caches call }
 
--- the caches after a call; one that is refused changes nothing
+-- the caches after a call; a refused call changes nothing
 abbrev pub after : Plain → Call → Plain
 after caches (Get id key) = caches
 after caches (Put id key value) = record { caches = with_put id key value caches.caches; minor = caches.minor }
 
--- what may stand as a key or as a value: not null, within the limits, and of a canonical form whose length is an Int32
+-- what may be a key or a value: not null, within the limits of values, and with a canonical encoding whose length is an Int32
 pub record IsItem (v : Value) : Type 0 where
   pub there : v ≢ Null
   pub fits : Fits v
   pub sendable : IsSendable v
 
+-- a call whose key and value may be such
 abbrev pub IsSound : Call → Type 0
 IsSound (Get id key) = IsItem key
 IsSound (Put id key value) = IsItem key × IsItem value
 
--- the answer is of the kind that the call has, or a refusal
+-- the outcome is of the call's kind, or a refusal
 abbrev pub FitsOutcome : Call → Outcome → Type 0
 FitsOutcome call (Refused why) = Unit {0}
 FitsOutcome (Get id key) (Found value) = Unit {0}

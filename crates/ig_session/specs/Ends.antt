@@ -1,10 +1,10 @@
--- How a session ends where its input does.
+-- How a session ends whose input has ended.
 use Rattle.std.specs.Prelude.{ℕ, Bool, true, false, List, [], ◌∷◌}
 use Rattle.ig_session.specs.declared.session.Session.{Session}
 use Rattle.ig_session.specs.declared.end.SessionEnd.{SessionEnd}
 use Rattle.ig_session.specs.declared.end.SessionEnd.TheVariants as ends
 
--- well at a frame's end behind a hello
+-- by whether a hello was accepted, and what is left after the whole frames
 abbrev pub end_by : Bool → List ℕ → ℕ → SessionEnd
 end_by true [] missing = ends.Ended
 end_by true (byte ∷ bytes) missing = ends.Truncated missing

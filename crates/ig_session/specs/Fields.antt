@@ -1,4 +1,4 @@
--- Reading the fields of a request.
+-- What reading the fields of a request answers.
 use Rattle.std.specs.Prelude.{◌≡◌, ℕ, ℤ, ◌-◌, ◌<◌, ◌≤◌, List, [], drop, length, Result, Ok, Err}
 use Rattle.ig_value.specs.declared.cause.Cause.{Cause}
 use Rattle.ig_value.specs.declared.value.Value.{Value}
@@ -9,18 +9,18 @@ use Rattle.ig_session.specs.Requests.{cache_at, get_at, put_at, whole}
 use Rattle.ig_session.specs.declared.ops.Unread.{Unread}
 use Rattle.ig_session.specs.declared.ops.Unread.TheVariants.{At, NoMemory}
 
--- reading stops at this place of the body
+-- reading fails at this offset of the body
 pub record StopsAt {A : Type 0} (body : List ℕ) (place : ℕ) (read : Read A) : Type 0 where
   pub cause : Cause
   pub within : place ≤ length body
   pub is : read ≡ Err (length body - place, cause)
 
--- reading stops where it is said to, unless memory ran out
+-- reading fails at the offset that is told, or was out of memory
 abbrev pub Halts : {A : Type 0} → List ℕ → Unread → Read A → Type 0
 Halts body (At place) read = StopsAt body place read
 Halts body NoMemory read = Unit {0}
 
--- a value that was read keeps to the limits, and the length of its canonical form is an Int32
+-- a value that was read is within the limits, and the length of its canonical encoding is an Int32
 abbrev pub IsRead : Value → Type 0
 IsRead v = Fits v × IsSendable v
 
@@ -32,13 +32,13 @@ abbrev pub ReadsItem : List ℕ → ℕ → Result (Value × ℕ) Unread → Typ
 ReadsItem body at (Ok (v, end)) = (end ≤ length body) × (reading (drop at body) ≡ Ok (v, drop end body)) × IsRead v
 ReadsItem body at (Err fault) = Halts body fault (reading (drop at body))
 
--- nothing stands behind the place
+-- nothing follows the offset
 abbrev pub ReadsEnd : List ℕ → ℕ → Result (Unit {0}) Unread → Type 0
 ReadsEnd body at (Ok u) = drop at body ≡ []
 ReadsEnd body at (Err NoMemory) = ⊥
 ReadsEnd body at (Err (At place)) = (place ≡ at) × (at < length body)
 
--- the fields are not read as a whole, unless memory ran out
+-- the fields are malformed at the offset that is told, or reading them was out of memory
 abbrev pub IsNotWhole : {A : Type 0} → List ℕ → Unread → Result A ℕ → Type 0
 IsNotWhole body (At place) fields = (place ≤ length body) × (fields ≡ Err (length body - place))
 IsNotWhole body NoMemory fields = Unit {0}

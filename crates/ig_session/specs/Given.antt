@@ -1,4 +1,4 @@
--- What a caller gives for a call.
+-- What a caller returned for a call, as the definitions have it.
 use Rattle.std.specs.Prelude.{Result, Ok, Err}
 use Rattle.ig_base.specs.declared.memory.NoRoom.{NoRoom}
 use Rattle.ig_session.specs.Replies.{Shown, came_of, no_memory}
@@ -10,7 +10,7 @@ abbrev pub given : Result Answer (NoRoom Call) → Got
 given (Ok answer) = Had answer
 given (Err e) = NoMemory
 
--- what the reply shows of it
+-- the content of the reply
 abbrev pub shown_given : Result Answer (NoRoom Call) → Shown
 shown_given (Ok answer) = came_of answer.outcome
 shown_given (Err e) = no_memory

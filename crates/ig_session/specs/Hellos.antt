@@ -13,26 +13,26 @@ string text = 9 ∷ LE w32 (pos (length text)) ++ text
 abbrev pub version_bytes : Version → List ℕ
 version_bytes v = LE w16 v.major ++ LE w16 v.minor ++ LE w16 v.patch
 
--- the only version that is spoken
+-- the only version that is supported
 abbrev pub spoken : Version
 spoken = record { major = pos 1; minor = pos 0; patch = pos 0 }
 
--- a hello is code 1, a version and the code 2 of a client like this
+-- the accepted hello: code 1, the version, and the client code 2
 abbrev pub hello : List ℕ
 hello = 1 ∷ 1 ∷ 0 ∷ 0 ∷ 0 ∷ 0 ∷ 0 ∷ 2 ∷ []
 
 abbrev pub is_accepted : List ℕ → Bool
 is_accepted body = bytes_eq body hello
 
--- a number of two bytes, 0 where there are too few
+-- the number of two bytes at an offset, 0 where the body is too short
 abbrev pub short_at : List ℕ → ℕ → ℤ
 short_at body at = unwrap_or (number_at w16 body at) (pos 0)
 
--- the version that a hello asks for
+-- the version that a hello asks for, after its first byte
 abbrev pub asked_version : List ℕ → Version
 asked_version body = record { major = short_at body 1; minor = short_at body 3; patch = short_at body 5 }
 
--- the reply: code 1, or code 0 with the version that is spoken and the reason
+-- the reply: byte 1, or byte 0 with the supported version and the reason
 abbrev pub accepting : List ℕ
 accepting = 1 ∷ []
 

@@ -15,7 +15,7 @@ abbrev pub Legal : Plain → List Entry → Type 0
 Legal start [] = Unit {0}
 Legal start (entry ∷ entries) = (entry.answer ≡ answered start entry.call) × Legal (after start entry.call) entries
 
--- the caches that a history leaves
+-- the caches after a history
 abbrev pub left_by : Plain → List Entry → Plain
 left_by start [] = start
 left_by start (entry ∷ entries) = left_by (after start entry.call) entries
@@ -25,6 +25,6 @@ abbrev pub AreUnder : ℕ → List Entry → Type 0
 AreUnder seat [] = Unit {0}
 AreUnder seat (entry ∷ entries) = (entry.seat ≡ seat) × AreUnder seat entries
 
--- whatever start and entries it stood for, it now stands for the same start and these entries added
+-- each history that the old caller may have, the new one may have with these entries appended
 pub record StandsOn {C : Type 0} (stands : C → Plain → List Entry → Type 0) (old new : C) (more : List Entry) : Type 0 where
   pub keeps : (start : Plain) (own : List Entry) → stands old start own → stands new start (own ++ more)

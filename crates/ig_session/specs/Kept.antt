@@ -1,4 +1,4 @@
--- How the caches are kept.
+-- The plain caches that a `Caches` represents.
 use Rattle.std.specs.Prelude.{pos, [], ◌∷◌}
 use Rattle.ig_session.specs.Caches.{Plain}
 use Rattle.ig_session.specs.Rows.{rows_of}

@@ -12,25 +12,28 @@ use Rattle.ig_session.specs.declared.caches.Outcome.TheVariants.{Done, Found, Re
 use Rattle.ig_session.specs.declared.ops.Refusal.{Refusal}
 use Rattle.ig_session.specs.declared.ops.Refusal.TheVariants.{InvalidOperation, Malformed, NullKeyOrValue}
 
--- what a reply shows: a result, or a status and the reason
+-- the content of a reply: a result, or a status and the reason
 pub data Shown : Type 0 where
   Result : List ℕ → Shown
   Fault : ℤ → List ℕ → Shown
 
+-- the reply to a request that is refused
 abbrev pub refused : Refusal → Shown
 refused InvalidOperation = Fault (pos 2) (codes "invalid operation code")
 refused (Malformed place) = Fault (pos 1) (codes "malformed request at " ++ decimal place)
 refused NullKeyOrValue = Fault (pos 1) (codes "null key or value")
 
+-- the reply to a call that was answered
 abbrev pub came_of : Outcome → Shown
 came_of Done = Result []
 came_of (Found value) = Result (Canon value)
 came_of (Refused NoCache) = Fault (pos 1000) (codes "cache does not exist")
 
+-- the reply to a call that was handed back
 abbrev pub no_memory : Shown
 no_memory = Fault (pos 9000) (codes "no memory")
 
--- the request's identifier, the status, and the result or the reason
+-- the body of a reply: the request's identifier, the status, and the result or the reason
 abbrev pub reply : ℤ → Shown → List ℕ
 reply id (Result bytes) = LE w64 id ++ LE w32 (pos 0) ++ bytes
 reply id (Fault status reason) = LE w64 id ++ LE w32 status ++ string reason
@@ -38,7 +41,7 @@ reply id (Fault status reason) = LE w64 id ++ LE w32 status ++ string reason
 abbrev pub too_long : Shown
 too_long = Fault (pos 1) (codes "reply too long")
 
--- a reply that is longer than a body may be gives way to one that says so
+-- in the place of a reply that is longer than a body may be, the fault `reply too long` is sent
 abbrev pub reply_body : ℤ → Shown → List ℕ
 reply_body id shown = if nat_le (length (reply id shown)) max_body then reply id shown else reply id too_long
 

@@ -14,7 +14,7 @@ use Rattle.ig_session.specs.declared.ops.Ask.{Ask}
 use Rattle.ig_session.specs.declared.ops.Ask.TheVariants.{Run, Refuse}
 use Rattle.ig_session.specs.declared.ops.Asked.{Asked}
 
--- The fields of an operation on one key: the cache's identifier, a byte of flags that is not looked at, the key, and for a
+-- The fields of an operation on one key: the cache's identifier, a byte of flags that the server ignores, the key, and for a
 -- put the value.
 abbrev pub cache_at : List ℕ → Read (ℤ × ℤ)
 cache_at = both_at (scalar_at i32) (scalar_at i8)
@@ -25,13 +25,13 @@ get_at = both_at cache_at reading
 abbrev pub put_at : List ℕ → Read (((ℤ × ℤ) × Value) × Value)
 put_at = both_at get_at reading
 
--- the fields as a whole, or how many bytes are left where they don't read, or where others follow them
+-- the fields where they are all of the bytes, or how many bytes are left where they are malformed or end too early
 abbrev pub whole : {A : Type 0} → Read A → Result A ℕ
 whole (Ok (x, [])) = Ok x
 whole (Ok (x, (byte ∷ bytes))) = Err (suc (length bytes))
 whole (Err fault) = Err fault.0
 
--- the place in the frame, from the first byte of its length, where so many bytes of the body are left
+-- the offset from the first byte of the frame's length at which `left` bytes of the body are left
 abbrev pub frame_place : List ℕ → ℕ → ℕ
 frame_place body left = 4 + (length body - left)
 
@@ -48,7 +48,7 @@ abbrev pub asked_put : List ℕ → Result (((ℤ × ℤ) × Value) × Value) �
 asked_put body (Ok (((cache, flags), key), value)) = if is_null key || is_null value then Refuse NullKeyOrValue else Run (Put cache key value)
 asked_put body (Err left) = Refuse (Malformed (frame_place body left))
 
--- what a body asks by its operation; the fields stand behind the operation and the identifier
+-- what a body asks, by its operation; the fields come after the operation and the identifier
 abbrev pub ask_by : ℤ → List ℕ → Ask
 ask_by operation body =
     if int_eq operation (pos 1000) then asked_get body (whole (get_at (drop 10 body)))
@@ -61,7 +61,7 @@ ask_of body = record {
   ask = ask_by (unwrap_or (number_at w16 body 0) (pos 0)) body;
 }
 
--- a call that is asked keeps what calls must keep
+-- the call of a request may be run
 abbrev pub IsSoundAsk : Ask → Type 0
 IsSoundAsk (Run call) = IsSound call
 IsSoundAsk (Refuse why) = Unit {0}

@@ -1,4 +1,4 @@
-//! Calls on caches, and the caches.
+//! Calls on caches, their answers, and the caches that run them.
 
 ghost use Rattle.std.specs.Prelude.{◌≡◌, IfOk, IfErr, OnOk, OnErr};
 ghost use Rattle.ig_value.specs.declared.value.Value.{Value};
@@ -16,12 +16,12 @@ use std::collections::BTreeMap;
 /// A call on the caches.
 #[derive(Debug, Drop)]
 pub enum Call {
-    /// Asks for the value of a key.
+    /// Asks for the value of a key in the cache with this identifier.
     Get {
         cache: i32,
         key: Value,
     },
-    /// Sets the value of a key.
+    /// Sets the value of a key in the cache with this identifier.
     Put {
         cache: i32,
         key: Value,
@@ -32,36 +32,38 @@ pub enum Call {
 /// Why a call was refused.
 #[derive(Clone, Copy, Debug, PartialEq, Eq)]
 pub enum Why {
-    /// No cache has the call's identifier.
+    /// No cache has the identifier that the call names.
     NoCache,
 }
 
-/// What came of a call.
+/// What a call led to.
 #[derive(Debug, Drop)]
 pub enum Outcome {
+    /// The value was set.
     Done,
-    /// The value that was asked for, null where there is none.
+    /// The value that was asked for, null where the key has none.
     Found(Value),
+    /// The call changed nothing.
     Refused(Why),
 }
 
 /// The answer to a call.
 #[derive(Debug, Drop)]
 pub struct Answer {
-    /// How often a cache had been created or destroyed.
+    /// How often a cache had been created or destroyed when the call ran.
     pub minor: i32,
     pub outcome: Outcome,
 }
 
-/// What runs calls as plain caches do.
+/// An object that runs calls as plain caches do: finite maps from keys to values.
 pub trait Exec {
     ghost use Rattle.std.specs.Prelude.{◌≡◌, IfOk, OnOk, IfErr, OnErr};
     ghost use Rattle.ig_session.specs.Caches.{Plain, answered, after, IsSound};
 
-    /// The caches that it keeps, however it keeps them.
+    /// The plain caches that it represents.
     ghost caches: { Self → Plain };
 
-    /// Runs a call. Without memory for it the call comes back, and nothing has changed.
+    /// Runs a call. When out of memory, it hands the call back and has changed nothing.
     fn run(&mut self, call: Call) -> Result<Answer, NoRoom<Call>>
         requires { IsSound call }
         ensures answer { IfOk result (λ answer. answer ≡ answered (caches self.old) call) }
@@ -70,20 +72,21 @@ pub trait Exec {
         ensures unchanged { OnErr result (caches self.new ≡ caches self.old) };
 }
 
-/// One cache, whose rows stand by the canonical forms of their keys.
+/// One cache, with its rows ordered by the canonical encodings of their keys.
 #[derive(Drop)]
 pub struct Caches {
     alloc: Global,
     id: i32,
     name: Text,
     rows: BTreeMap<Vec<u8>, Value>,
-    // The canonical form of the key of the call that is run.
+    // The canonical encoding of the key of the call that runs. Kept between calls for its memory.
     form: Octets,
 }
 
-/// The value of the key with this canonical form, null where there is none.
+/// The value of the key with this canonical encoding, null where there is none.
 fn value_of(alloc: Global, rows: &BTreeMap<Vec<u8>, Value>, form: &[u8]) -> Result<Value, NoMemory>
-    ensures { IfOk result (λ value. (key : Value) → form.now ≡ Canon key → value ≡ value_in (rows_of (λ k. k.items) rows.now.entries) key) }
+    ensures { IfOk result (λ value. (key : Value) → form.now ≡ Canon key
+        → value ≡ value_in (rows_of (λ k. k.items) rows.now.entries) key) }
 {
     match rows.get(form) {
         Some(value) => value.copy(alloc),
@@ -91,7 +94,8 @@ fn value_of(alloc: Global, rows: &BTreeMap<Vec<u8>, Value>, form: &[u8]) -> Resu
     }
 }
 
-/// Sets the value of the key with this canonical form. Without memory nothing has changed.
+/// Sets the value of the key with this canonical encoding. When out of memory, it hands the value
+/// back and has changed nothing.
 fn set(
     alloc: Global,
     rows: &mut BTreeMap<Vec<u8>, Value>,
@@ -99,7 +103,8 @@ fn set(
     value: Value,
 ) -> Result<(), NoRoom<Value>>
     ensures ok { OnOk result ((key : Value) → Fits key → form.now ≡ Canon key
-        → rows_of (λ k. k.items) rows.new.entries ≡ with_row (rows_of (λ k. k.items) rows.old.entries) key value) }
+        → rows_of (λ k. k.items) rows.new.entries
+        ≡ with_row (rows_of (λ k. k.items) rows.old.entries) key value) }
     ensures back { IfErr result (λ e. e.back ≡ value) }
     ensures err { OnErr result (rows.new.entries ≡ rows.old.entries) }
 {
@@ -121,7 +126,7 @@ impl Answer {
     ghost use Rattle.ig_session.specs.declared.caches.Outcome.TheVariants.{Refused};
     ghost use Rattle.ig_session.specs.declared.caches.Why.TheVariants.{NoCache};
 
-    // The answer to a call on a cache that isn't there.
+    // The answer to a call on a cache that doesn't exist.
     fn no_cache() -> Answer
         ensures minor { result.minor ≡ pos 0 }
         ensures outcome { result.outcome ≡ Refused NoCache }
@@ -155,7 +160,8 @@ impl Caches {
     // The value of a key, null where there is none.
     fn found(&mut self, key: &Value) -> Result<Value, NoMemory>
         requires { IsItem key.now }
-        ensures found { IfOk result (λ value. value ≡ value_in (rows_of (λ k. k.items) self.old.rows.entries) key.now) }
+        ensures found { IfOk result (λ value.
+            value ≡ value_in (rows_of (λ k. k.items) self.old.rows.entries) key.now) }
         ensures same { kept self.new ≡ kept self.old }
         ensures id { self.new.id ≡ self.old.id }
     {
@@ -186,7 +192,8 @@ impl Caches {
 
     fn put(&mut self, cache: i32, key: Value, value: Value) -> Result<Answer, NoRoom<Call>>
         requires { IsItem key }
-        ensures answer { IfOk result (λ answer. answer ≡ answered (kept self.old) (Put cache key value)) }
+        ensures answer { IfOk result (λ answer.
+            answer ≡ answered (kept self.old) (Put cache key value)) }
         ensures after { OnOk result (kept self.new ≡ after (kept self.old) (Put cache key value)) }
         ensures back { IfErr result (λ e. e.back ≡ Put cache key value) }
         ensures unchanged { OnErr result (kept self.new ≡ kept self.old) }
@@ -209,10 +216,11 @@ impl Caches {
         }
     }
 
-    // Sets the value of a key. Without memory the value comes back, and nothing has changed.
+    // Sets the value of a key. When out of memory, it hands the value back and has changed nothing.
     fn store(&mut self, key: &Value, value: Value) -> Result<(), NoRoom<Value>>
         requires { IsItem key.now }
-        ensures ok { OnOk result (rows_of (λ k. k.items) self.new.rows.entries ≡ with_row (rows_of (λ k. k.items) self.old.rows.entries) key.now value) }
+        ensures ok { OnOk result (rows_of (λ k. k.items) self.new.rows.entries
+            ≡ with_row (rows_of (λ k. k.items) self.old.rows.entries) key.now value) }
         ensures back { IfErr result (λ e. e.back ≡ value) }
         ensures err { OnErr result (kept self.new ≡ kept self.old) }
         ensures id { self.new.id ≡ self.old.id }

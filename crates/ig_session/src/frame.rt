@@ -1,4 +1,5 @@
-//! Frames of a stream that comes in pieces.
+//! Cuts a stream that comes in pieces into frames: a length of four bytes, and a body of this
+//! length.
 
 ghost use Rattle.std.specs.Prelude.{◌≡◌, ◌≤◌, ◌+◌, ◌++◌, [], drop, length, OnOk, OnErr};
 ghost use Rattle.ig_base.specs.Numbers.{AreBytes};
@@ -14,15 +15,15 @@ const MAX_FRAME: usize = 8_388_608;
 
 /// What a stream begins with.
 pub(crate) enum Look<'a> {
-    /// A whole frame: its body.
+    /// A whole frame, with this body.
     Body(&'a [u8]),
     /// A length that is out of range.
     Bad(i32),
-    /// Less than a whole frame: how many bytes are missing to the end of the length, or of the frame.
+    /// Less than a whole frame: this many more bytes complete the length, or the frame.
     Part(usize),
 }
 
-/// The bytes of a stream that have come and weren't passed.
+/// The bytes of a stream that have come, after the frames that were passed.
 #[derive(Drop)]
 pub(crate) struct Frames {
     bytes: Vec<u8>,
@@ -40,7 +41,7 @@ impl Model for Frames {
 }
 
 impl Frames {
-    /// No bytes yet.
+    /// A stream of which no bytes have come.
     pub fn new(alloc: Global) -> Frames
         ensures { result ≡ [] }
     {
@@ -57,7 +58,7 @@ impl Frames {
         self.bytes.len() - self.at
     }
 
-    /// More bytes come. Those that were passed are let go first.
+    /// Appends the next piece of the stream. The bytes that were passed are dropped first.
     pub fn feed(&mut self, piece: &[u8]) -> Result<(), NoMemory>
         ensures ok { OnOk result (self.new ≡ self.old ++ piece.now) }
         ensures bytes { AreBytes piece.now }
@@ -71,14 +72,14 @@ impl Frames {
         Ok(())
     }
 
-    /// What the bytes begin with, where a body has at least this many bytes.
+    /// What the bytes begin with, where a body has at least `least` bytes.
     pub fn look(&self, least: usize) -> Look<'_>
         ensures { LooksAs result (front least self.now) }
     {
         look_at(&self.bytes[self.at..], least)
     }
 
-    /// Passes the frame that the bytes begin with, whose body has this length.
+    /// Passes the frame that the bytes begin with, whose body has `len` bytes.
     pub fn pass(&mut self, len: usize)
         requires { 4 + len ≤ length self.old }
         ensures { self.new ≡ drop (4 + len) self.old }
@@ -88,7 +89,7 @@ impl Frames {
     }
 }
 
-/// The length of the body of the frame that bytes begin with, or what else they begin with.
+/// The length as a number of bytes, or `None` where it is below `least` or above the greatest.
 fn body_len(length: i32, least: usize) -> Option<usize>
     ensures { result ≡ len_in_range least length }
 {
@@ -98,7 +99,7 @@ fn body_len(length: i32, least: usize) -> Option<usize>
     }
 }
 
-/// What bytes begin with, where a body has at least this many.
+/// What bytes begin with, where a body has at least `least` bytes.
 #[tactic(auto, unfolding(ig_base::specs::Frames::front))]
 fn look_at(bytes: &[u8], least: usize) -> Look<'_>
     ensures { LooksAs result (front least bytes.now) }

@@ -1,9 +1,12 @@
-//! The server's end of a link.
+//! The server's side of a connection: one session over one link.
 //!
-//! A session reads a hello and then requests, runs each request's call by a [`Caller`], and answers
-//! each before it looks at the next. [`serve_link`] reads and writes one link, [`serve_ends`] a source
-//! and a sink that are apart. What a session's input, output and history have to do with one another is
-//! `Serves` in `specs/Serves.antt`.
+//! A session reads a hello and then requests. It runs the call of each request through a
+//! [`Caller`], and writes the reply before it looks at the next request. [`serve_link`] serves a
+//! session over one link, [`serve_ends`] over a separate source and sink.
+//!
+//! `Serves` in `specs/Serves.antt` says how a session's input, its output, its calls and its end
+//! belong together: one reply to each body that was read, in order; each call handed out once, in
+//! order; and for each way to end, what of the input was left.
 #![tactic(auto)]
 
 mod caches;

@@ -1,4 +1,4 @@
-//! Requests: what they ask.
+//! Reads requests: the operation, the identifier, and the fields of the operation.
 
 ghost use Rattle.std.specs.Prelude.{◌≡◌, ◌+◌, ◌≤◌, drop, length, IfOk, OnOk};
 ghost use Rattle.ig_base.specs.Frames.{max_body};
@@ -17,7 +17,8 @@ use std::alloc::Global;
 pub enum Refusal {
     /// No operation has the code.
     InvalidOperation,
-    /// The fields don't read, or bytes follow them, at this place from the first byte of the frame's length.
+    /// The fields are malformed, or bytes follow them, at this offset from the first byte of the
+    /// frame's length.
     Malformed { place: usize },
     /// A key or a value is null.
     NullKeyOrValue,
@@ -30,7 +31,7 @@ pub enum Ask {
     Refuse(Refusal),
 }
 
-/// A request: its identifier, and what it asks.
+/// A request: its identifier, which the reply repeats, and what it asks.
 #[derive(Debug, Drop)]
 pub struct Asked {
     pub id: i64,
@@ -40,19 +41,19 @@ pub struct Asked {
 /// Why fields were not read.
 #[derive(Clone, Copy)]
 pub(crate) enum Unread {
-    /// They don't read at this place of the body.
+    /// They are malformed at this offset of the body.
     At(usize),
-    /// There was no memory for them.
+    /// Out of memory.
     NoMemory,
 }
 
-/// The place of a request's fields in its body.
+/// The offset of a request's fields in its body.
 const FIELDS: usize = 10;
 
-/// The place of the key of a request on one key.
+/// The offset of the key in the body of a request on one key.
 const KEY: usize = 15;
 
-/// The cache that the fields begin with. The flags behind it aren't looked at.
+/// The identifier of the cache, which the fields begin with. The flags byte after it is ignored.
 fn cache_at(body: &[u8]) -> Result<i32, Unread>
     requires { 10 ≤ length body.now }
     ensures { ReadsCache body.now result }
@@ -64,7 +65,7 @@ fn cache_at(body: &[u8]) -> Result<i32, Unread>
     }
 }
 
-/// The value at a place, and the place behind it.
+/// The value at an offset, and the offset after it.
 fn item_at(alloc: Global, body: &[u8], at: usize) -> Result<(Value, usize), Unread>
     requires within { at ≤ length body.now }
     requires short { length body.now ≤ max_body }
@@ -77,7 +78,7 @@ fn item_at(alloc: Global, body: &[u8], at: usize) -> Result<(Value, usize), Unre
     }
 }
 
-/// Whether the body ends at a place.
+/// Checks that the body ends at this offset.
 fn end_at(body: &[u8], at: usize) -> Result<(), Unread>
     requires { at ≤ length body.now }
     ensures { ReadsEnd body.now at result }
@@ -129,7 +130,8 @@ fn is_null_value(value: &Value) -> bool
 fn read_get(alloc: Global, body: &[u8]) -> Result<Ask, NoMemory>
     requires long { 10 ≤ length body.now }
     requires short { length body.now ≤ max_body }
-    ensures value { IfOk result (λ ask. ask ≡ asked_get body.now (whole (get_at (drop 10 body.now)))) }
+    ensures value { IfOk result (λ ask.
+        ask ≡ asked_get body.now (whole (get_at (drop 10 body.now)))) }
     ensures sound { IfOk result (λ ask. IsSoundAsk ask) }
 {
     match get_fields(alloc, body) {
@@ -148,7 +150,8 @@ fn read_get(alloc: Global, body: &[u8]) -> Result<Ask, NoMemory>
 fn read_put(alloc: Global, body: &[u8]) -> Result<Ask, NoMemory>
     requires long { 10 ≤ length body.now }
     requires short { length body.now ≤ max_body }
-    ensures value { IfOk result (λ ask. ask ≡ asked_put body.now (whole (put_at (drop 10 body.now)))) }
+    ensures value { IfOk result (λ ask.
+        ask ≡ asked_put body.now (whole (put_at (drop 10 body.now)))) }
     ensures sound { IfOk result (λ ask. IsSoundAsk ask) }
 {
     match put_fields(alloc, body) {
@@ -180,7 +183,7 @@ fn ask_by_operation(alloc: Global, operation: i16, body: &[u8]) -> Result<Ask, N
     }
 }
 
-/// What a request asks: behind the operation and the identifier stand the operation's fields.
+/// What a request asks. After the operation and the identifier come the operation's fields.
 #[tactic(auto, unfolding(crate::specs::Requests::ask_of))]
 pub(crate) fn read_ask(alloc: Global, body: &[u8]) -> Result<Asked, NoMemory>
     requires long { 10 ≤ length body.now }

@@ -1,4 +1,5 @@
-//! Serving a link: the loop between a session and the two ends of what it serves.
+//! The loop that serves a session: it reads the input in pieces, feeds them to the session, and
+//! writes the replies.
 
 ghost use Rattle.std.specs.Prelude.{◌≡◌, ◌<◌, ◌≤◌, length};
 ghost use Rattle.ig_session.specs.Serves.{byte_limit};
@@ -11,13 +12,14 @@ use crate::session::{Session, Step};
 use ig_link::{Duplex, Sink, Source, Take, send_all};
 use std::alloc::Global;
 
-/// The most bytes that a read takes.
+/// The most bytes that one read takes.
 const PIECE: usize = 65_536;
 
-/// The most bytes that a session takes.
+/// The most bytes that a session takes of its input.
 const BYTE_LIMIT: u64 = 1 << 48;
 
-/// How a session ends where its input does, with this many bytes missing to the next frame.
+/// How a session ends whose input has ended, where `missing` more bytes would complete the next
+/// length or frame.
 fn end_of_input(session: &Session, missing: usize) -> SessionEnd
     ensures { result ≡ end_at session.now missing }
 {
@@ -30,7 +32,8 @@ fn end_of_input(session: &Session, missing: usize) -> SessionEnd
     }
 }
 
-/// Takes the next piece of the input.
+/// Reads the next piece of the input and feeds it to the session. Returns how many bytes were taken
+/// in all, or the end of the session.
 fn take_piece<S: Source>(
     session: &mut Session,
     source: &mut S,
@@ -40,7 +43,8 @@ fn take_piece<S: Source>(
 ) -> Result<u64, SessionEnd>
     requires room { 0 < length buf.old }
     requires within { taken ≤ byte_limit }
-    ensures takes { TakesPiece session.old session.new (S.source source.old) (S.source source.new) taken missing result }
+    ensures takes { TakesPiece session.old session.new (S.source source.old) (S.source source.new)
+        taken missing result }
     ensures beside { S.sink_beside source.new ≡ S.sink_beside source.old }
 {
     if taken >= BYTE_LIMIT {
@@ -57,7 +61,8 @@ fn take_piece<S: Source>(
     }
 }
 
-/// Answers each whole frame, in order, and tells how many bytes are missing to the next.
+/// Answers each whole frame, in order. Returns how many more bytes complete the next length or
+/// frame, or the end of the session.
 fn answer_all<C: Caller, K: Sink>(
     alloc: Global,
     session: &mut Session,
@@ -65,9 +70,11 @@ fn answer_all<C: Caller, K: Sink>(
     sink: &mut K,
     taken: u64,
 ) -> Result<usize, SessionEnd>
-    ensures answers { AnswersAll C.stands (C.seat caller.old) caller.old caller.new session.old session.new
-        (K.sink sink.old) (K.sink sink.new) taken result }
+    ensures answers { AnswersAll C.stands (C.seat caller.old) caller.old caller.new
+        session.old session.new (K.sink sink.old) (K.sink sink.new) taken result }
     ensures seat { C.seat caller.new ≡ C.seat caller.old }
+    ensures lent { C.lent caller.new ≡ C.lent caller.old }
+    ensures kept { C.kept caller.new ≡ C.kept caller.old }
     ensures beside { K.source_beside sink.new ≡ K.source_beside sink.old }
 {
     'frames: loop {
@@ -90,8 +97,8 @@ fn answer_all<C: Caller, K: Sink>(
     }
 }
 
-/// Serves a session over a source and a sink that are apart: takes pieces of the input, and answers each
-/// whole frame, in order, before it takes the next. Stops at the first cause.
+/// Serves a session with a separate source and sink: reads the input in pieces of at most 64 KiB,
+/// answers each whole frame, in order, and returns at the first thing that ends the session.
 pub fn serve_ends<C: Caller, S: Source, K: Sink>(
     alloc: Global,
     caller: &mut C,
@@ -99,9 +106,11 @@ pub fn serve_ends<C: Caller, S: Source, K: Sink>(
     sink: &mut K,
     _cfg: &SessionCfg,
 ) -> SessionEnd
-    ensures served { Served C.stands (C.seat caller.old) caller.old caller.new (S.source source.old) (S.source source.new)
-        (K.sink sink.old) (K.sink sink.new) result }
+    ensures served { Served C.stands (C.seat caller.old) caller.old caller.new
+        (S.source source.old) (S.source source.new) (K.sink sink.old) (K.sink sink.new) result }
     ensures seat { C.seat caller.new ≡ C.seat caller.old }
+    ensures lent { C.lent caller.new ≡ C.lent caller.old }
+    ensures kept { C.kept caller.new ≡ C.kept caller.old }
 {
     let Ok(mut buf) = vec![in alloc; 0u8; PIECE] else {
         return SessionEnd::NoMemory;
@@ -121,16 +130,18 @@ pub fn serve_ends<C: Caller, S: Source, K: Sink>(
     }
 }
 
-/// Serves a session over a link, as [`serve_ends`] does over two ends that are apart.
+/// Serves a session over one link, as [`serve_ends`] does with a separate source and sink.
 pub fn serve_link<C: Caller, L: Duplex>(
     alloc: Global,
     caller: &mut C,
     link: &mut L,
     _cfg: &SessionCfg,
 ) -> SessionEnd
-    ensures served { Served C.stands (C.seat caller.old) caller.old caller.new (L.source link.old) (L.source link.new)
-        (L.sink link.old) (L.sink link.new) result }
+    ensures served { Served C.stands (C.seat caller.old) caller.old caller.new
+        (L.source link.old) (L.source link.new) (L.sink link.old) (L.sink link.new) result }
     ensures seat { C.seat caller.new ≡ C.seat caller.old }
+    ensures lent { C.lent caller.new ≡ C.lent caller.old }
+    ensures kept { C.kept caller.new ≡ C.kept caller.old }
 {
     let Ok(mut buf) = vec![in alloc; 0u8; PIECE] else {
         return SessionEnd::NoMemory;

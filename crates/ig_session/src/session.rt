@@ -1,4 +1,5 @@
-//! A session, one step at a time. It knows nothing of how its bytes come and go.
+//! A session as a state machine: it takes bytes and prepares replies, and neither reads nor writes
+//! a link.
 
 ghost use Rattle.std.specs.Prelude.{◌≡◌, ◌++◌, ◌<◌, [], length, IfOk, OnOk, OnErr};
 ghost use Rattle.ig_session.specs.Replies.{refused, reply_frame};
@@ -19,18 +20,20 @@ use ig_base::{NoMemory, NoRoom, Octets};
 use std::alloc::Global;
 
 /// What a session did in a step.
+#[derive(Drop)]
 pub(crate) enum Step {
-    /// No whole frame is there: how many bytes are missing.
+    /// There is no whole frame: this many more bytes complete its length, or the frame.
     More(usize),
-    /// A length out of range stands in a frame's place.
+    /// The next frame has this length, which is out of range.
     Bad(i32),
-    /// A reply waits.
+    /// A frame was answered, and the reply is to be written.
     Out,
-    /// The hello was refused; the reply to it waits.
+    /// The hello was refused, and the reply that says so is to be written.
     Refused(HelloFault),
 }
 
-/// A session: the input that it hasn't read, whether the hello was accepted, and the reply that waits.
+/// A session: the input that it hasn't read, whether a hello was accepted, and the reply to be
+/// written.
 #[derive(Drop)]
 pub(crate) struct Session {
     pub frames: Frames,
@@ -38,7 +41,7 @@ pub(crate) struct Session {
     pub reply: Octets,
 }
 
-/// The least length of the next body: a hello has at least 8 bytes, a request 10.
+/// The least length of the next body: a hello has at least 8 bytes, a request at least 10.
 fn least_len(is_open: bool) -> usize
     ensures { result ≡ least_of is_open }
 {
@@ -56,7 +59,7 @@ fn put_refusal(alloc: Global, out: &mut Octets, id: i64, refusal: Refusal) -> Re
     }
 }
 
-/// Appends the reply to a request whose fields don't read at a place.
+/// Appends the reply to a request whose fields are malformed at an offset.
 fn put_malformed(alloc: Global, out: &mut Octets, id: i64, place: usize) -> Result<(), NoMemory>
     ensures { OnOk result (out.new ≡ out.old ++ reply_frame id (refused (Malformed place))) }
 {
@@ -64,7 +67,7 @@ fn put_malformed(alloc: Global, out: &mut Octets, id: i64, place: usize) -> Resu
     put_fault(out, id, 1, reason.as_str())
 }
 
-/// Appends the reply to a call, by what was given for it.
+/// Appends the reply to a call, by what the caller returned for it.
 fn put_given(
     alloc: Global,
     out: &mut Octets,
@@ -91,8 +94,11 @@ fn answer_to<C: Caller>(
     reply: &mut Octets,
 ) -> Result<(), NoMemory>
     requires { IsSoundAsk asked.ask }
-    ensures answers { Answers C.stands (C.seat caller.old) caller.old caller.new asked result reply.old reply.new }
+    ensures answers { Answers C.stands (C.seat caller.old) caller.old caller.new asked result
+        reply.old reply.new }
     ensures seat { C.seat caller.new ≡ C.seat caller.old }
+    ensures lent { C.lent caller.new ≡ C.lent caller.old }
+    ensures kept { C.kept caller.new ≡ C.kept caller.old }
 {
     let Asked { id, ask } = asked;
     match ask {
@@ -120,10 +126,13 @@ impl Session {
         }
     }
 
-    /// The next step: reads the frame that comes next, if it is whole, and answers it.
+    /// Reads the next frame, if it is whole, and answers it.
     pub fn advance<C: Caller>(&mut self, alloc: Global, caller: &mut C) -> Result<Step, NoMemory>
-        ensures steps { Steps C.stands (C.seat caller.old) caller.old caller.new self.old self.new result }
+        ensures steps { Steps C.stands (C.seat caller.old) caller.old caller.new self.old self.new
+            result }
         ensures seat { C.seat caller.new ≡ C.seat caller.old }
+        ensures lent { C.lent caller.new ≡ C.lent caller.old }
+        ensures kept { C.kept caller.new ≡ C.kept caller.old }
     {
         self.reply.clear();
         let body = match self.frames.look(least_len(self.is_open)) {

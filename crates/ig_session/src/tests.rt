@@ -16,7 +16,7 @@ const HELLO_AND_PUT: [u8; 41] = [
     0x33, 0, 0, 3, 1, 0, 0, 0, 3, 2, 0, 0, 0,
 ];
 
-/// A link that gives these bytes.
+/// A link whose reads give these bytes.
 fn link(alloc: Global, bytes: &[u8]) -> Result<MemLink, Fail> {
     let mut reads = Vec::new(alloc);
     reads.push(ReadStep::Bytes(Octets::new(Vec::from_slice(alloc, bytes)?)))?;
@@ -29,7 +29,7 @@ fn caller(alloc: Global) -> Result<Alone<Caches>, Fail> {
     Ok(Alone::new(Caches::start(alloc, name)))
 }
 
-/// How sessions end whose input ends anywhere, with how many bytes are missing.
+/// How a session ends whose input is cut off at these lengths.
 #[test]
 fn ends(rt: HostRuntime) -> Result<(), Fail> {
     let table: [(usize, SessionEnd); 6] = [
@@ -48,7 +48,51 @@ fn ends(rt: HostRuntime) -> Result<(), Fail> {
     Ok(())
 }
 
-/// What a refused hello asks for, and where a length out of range stands.
+/// How the ends of sessions are told to a person.
+static TEXTS: [(SessionEnd, &str); 9] = [
+    (SessionEnd::Ended, "the input ended after a whole frame"),
+    (
+        SessionEnd::Truncated { missing: 1 },
+        "the input ended with 1 byte missing",
+    ),
+    (
+        SessionEnd::Truncated { missing: 4 },
+        "the input ended with 4 bytes missing",
+    ),
+    (
+        SessionEnd::BadFrame {
+            place: 12,
+            length: 9,
+        },
+        "the frame at offset 12 has the length 9, which is out of range",
+    ),
+    (
+        SessionEnd::HelloRefused(HelloFault::Version(Version {
+            major: 1,
+            minor: 7,
+            patch: 0,
+        })),
+        "the hello was refused: the client asked for protocol version 1.7.0, which isn't supported",
+    ),
+    (SessionEnd::ReadFault, "reading the input failed"),
+    (SessionEnd::WriteFault, "writing the output failed"),
+    (
+        SessionEnd::ByteLimit,
+        "the client sent 2^48 bytes, the most that a session takes",
+    ),
+    (SessionEnd::NoMemory, "out of memory"),
+];
+
+#[test]
+fn ends_have_texts(rt: HostRuntime) -> Result<(), Fail> {
+    for (end, text) in &TEXTS {
+        let shown = format!(in rt.alloc(); "{end}")?;
+        assert_eq!(rt; shown.as_str(), *text);
+    }
+    Ok(())
+}
+
+/// The version that a refused hello asked for, and the offset of a length out of range.
 #[test]
 fn refusals(rt: HostRuntime) -> Result<(), Fail> {
     let mut bytes = HELLO_AND_PUT;

@@ -1,4 +1,4 @@
-//! Hellos and replies as bytes.
+//! Reads hellos, and writes the replies to hellos and requests.
 
 ghost use Rattle.std.specs.Prelude.{◌≡◌, ◌++◌, ◌<◌, ◌≤◌, ◌^◌, [], pos, length, OnOk, if◌then◌else◌};
 ghost use Rattle.std.specs.Int.{w32, w64};
@@ -12,11 +12,14 @@ use ig_base::{NoMemory, Octets, get_i16, put_i16, put_i32, put_i64};
 use ig_encode::{canonical_len, encode_known};
 use ig_value::Value;
 use std::alloc::Global;
+use std::error::Error;
+use std::fmt;
 
-/// The greatest length of a result in a reply, whose head has 12 bytes.
+/// The greatest length of a result in a reply: that of a body, less the 12 bytes of the reply's
+/// head.
 const MOST_RESULT: u128 = 8_388_608 - 12;
 
-/// A version of the protocol.
+/// A version of the protocol, shown as `1.7.0`.
 #[derive(Clone, Copy, Debug, PartialEq, Eq)]
 pub struct Version {
     pub major: i16,
@@ -24,12 +27,32 @@ pub struct Version {
     pub patch: i16,
 }
 
+impl fmt::Display for Version {
+    fn fmt<W: fmt::Write>(&self, f: &mut fmt::Formatter<W>) -> fmt::Result {
+        write!(f, "{}.{}.{}", self.major, self.minor, self.patch)
+    }
+}
+
 /// Why a hello was refused.
 #[derive(Clone, Copy, Debug, PartialEq, Eq)]
 pub enum HelloFault {
-    /// It isn't the hello of the version that is spoken; its six bytes behind the first are these.
+    /// It isn't the hello of the supported version. This is what its six bytes after the first say,
+    /// read as three numbers of two bytes; a number that isn't whole counts as 0.
     Version(Version),
 }
+
+impl fmt::Display for HelloFault {
+    fn fmt<W: fmt::Write>(&self, f: &mut fmt::Formatter<W>) -> fmt::Result {
+        match self {
+            HelloFault::Version(version) => write!(
+                f,
+                "the client asked for protocol version {version}, which isn't supported"
+            ),
+        }
+    }
+}
+
+impl Error for HelloFault {}
 
 /// Whether a hello is accepted.
 pub(crate) fn is_hello(body: &[u8]) -> bool
@@ -57,7 +80,7 @@ fn put_len(out: &mut Octets, len: usize) -> Result<(), NoMemory>
     put_i32(out, len as i32)
 }
 
-/// Appends a text of a message.
+/// Appends a text: code 9, its length and its bytes.
 fn put_text(out: &mut Octets, text: &str) -> Result<(), NoMemory>
     requires { length text.now < 2 ^ 31 }
     ensures { OnOk result (out.new ≡ out.old ++ string text.now) }
@@ -67,7 +90,7 @@ fn put_text(out: &mut Octets, text: &str) -> Result<(), NoMemory>
     out.append(text.as_bytes())
 }
 
-/// Appends the frame of the reply to a hello that is accepted.
+/// Appends the frame that accepts a hello.
 fn put_accepted(out: &mut Octets) -> Result<(), NoMemory>
     ensures { OnOk result (out.new ≡ out.old ++ Frame accepting) }
 {
@@ -75,7 +98,7 @@ fn put_accepted(out: &mut Octets) -> Result<(), NoMemory>
     out.push(1)
 }
 
-/// Appends the frame of the reply to a hello that is refused.
+/// Appends the frame that refuses a hello, with the supported version.
 fn put_refused(out: &mut Octets) -> Result<(), NoMemory>
     ensures { OnOk result (out.new ≡ out.old ++ Frame refusing) }
 {
@@ -89,7 +112,8 @@ fn put_refused(out: &mut Octets) -> Result<(), NoMemory>
 
 /// Appends the frame of the reply to a hello.
 pub(crate) fn put_hello_reply(out: &mut Octets, is_accepted: bool) -> Result<(), NoMemory>
-    ensures { OnOk result (out.new ≡ out.old ++ Frame (if is_accepted then accepting else refusing)) }
+    ensures { OnOk result (out.new
+        ≡ out.old ++ Frame (if is_accepted then accepting else refusing)) }
 {
     if is_accepted {
         put_accepted(out)
@@ -98,7 +122,7 @@ pub(crate) fn put_hello_reply(out: &mut Octets, is_accepted: bool) -> Result<(),
     }
 }
 
-/// Appends a reply up to its status, behind the length of its body.
+/// Appends the length of a reply's body, the request's identifier and the status.
 fn put_head(out: &mut Octets, len: usize, id: i64, status: i32) -> Result<(), NoMemory>
     requires { len < 2 ^ 31 }
     ensures { OnOk result (out.new ≡ out.old ++ LE w32 (pos len) ++ LE w64 id ++ LE w32 status) }
@@ -108,14 +132,15 @@ fn put_head(out: &mut Octets, len: usize, id: i64, status: i32) -> Result<(), No
     put_i32(out, status)
 }
 
-/// Appends the frame of a reply that shows no result.
+/// Appends the frame of a reply without a result.
 pub(crate) fn put_done(out: &mut Octets, id: i64) -> Result<(), NoMemory>
     ensures { OnOk result (out.new ≡ out.old ++ reply_frame id (result_of [])) }
 {
     put_head(out, 12, id, 0)
 }
 
-/// Appends the frame of a reply that shows a value, or of one that says that it would be too long.
+/// Appends the frame of a reply with a value, or of the fault `reply too long` where it would be
+/// longer than a frame may be.
 pub(crate) fn put_found(
     alloc: Global,
     out: &mut Octets,
@@ -133,7 +158,7 @@ pub(crate) fn put_found(
     encode_known(alloc, value, len, out)
 }
 
-/// Appends the frame of a reply that shows a status and the reason.
+/// Appends the frame of a reply with a status and the reason.
 pub(crate) fn put_fault(
     out: &mut Octets,
     id: i64,

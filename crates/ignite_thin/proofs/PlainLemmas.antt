@@ -8,7 +8,7 @@ use Rattle.ig_session.specs.declared.caller.Alone.{Alone}
 use Rattle.ig_session.specs.declared.end.SessionEnd.{SessionEnd}
 use Rattle.ig_session.specs.declared.end.SessionEnd.TheVariants as ends
 use Rattle.ig_session.proofs.LoopLemmas.{nothing_ran}
-use Rattle.ig_link.proofs.StateLemmas.{Gives-nothing, Gets-nothing}
+use Rattle.ig_link.proofs.StateLemmas.{SourceAdvances-nothing, SinkAdvances-nothing}
 use Rattle.ignite_thin.specs.Words.{pipe_name}
 use Rattle.ignite_thin.specs.Statuses.{status_of}
 use Rattle.ignite_thin.specs.Plain.{PipeRuns, RunsPipe, RunsPlain}
@@ -38,10 +38,10 @@ pipe_none name source sink = record {
   output = [];
   entries = [];
   legal = tt;
-  takes = Gives-nothing source;
-  writes = Gets-nothing sink;
+  takes = SourceAdvances-nothing source;
+  writes = SinkAdvances-nothing sink;
   serves = record { results = []; entries_are = refl; runs = nothing_ran };
-  caused = tt;
+  caused = (refl, refl);
   status_is = refl;
 }
 

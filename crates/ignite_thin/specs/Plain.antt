@@ -1,6 +1,6 @@
 -- What the commands that wait for nobody do.
 use Rattle.std.specs.Prelude.{◌≡◌, ℕ, List, [], ◌∷◌, Option, None, Some}
-use Rattle.ig_link.specs.States.{SourceState, SinkState, Gives, Gets}
+use Rattle.ig_link.specs.States.{SourceState, SinkState, SourceAdvances, SinkAdvances}
 use Rattle.ig_session.specs.Caches.{opened}
 use Rattle.ig_session.specs.Histories.{Entry, Legal}
 use Rattle.ig_session.specs.Serves.{Serves}
@@ -17,8 +17,8 @@ pub record PipeRuns (name : List ℕ) (source source' : SourceState) (sink sink'
   pub output : List ℕ
   pub entries : List Entry
   pub legal : Legal (opened (name ∷ [])) entries
-  pub takes : Gives source source' input
-  pub writes : Gets sink sink' output
+  pub takes : SourceAdvances source source' input
+  pub writes : SinkAdvances sink sink' output
   pub serves : Serves 0 input output entries end
   pub caused : IsCaused end source source' sink sink'
   pub status_is : status ≡ status_of end

@@ -1,8 +1,8 @@
 use Rattle.std.proofs.Common.{◌∙◌, ℕ, ℤ, Err, refl, sym, ap, subst, rules, FitsSigned, ◌-◌}
 use Rattle.std.proofs.lemmas.Int.{to_z-of_z}
 use Rattle.std.specs.Int.{w32}
-use Rattle.ig_link.specs.States.{Gets}
-use Rattle.ig_link.specs.Calls.{SentPart}
+use Rattle.ig_link.specs.States.{SinkAdvances}
+use Rattle.ig_link.specs.WritesAs.{SentPart}
 use Rattle.ig_session.specs.Sessions.{Steps}
 use Rattle.ig_session.specs.Serving.{AnswersAll}
 use Rattle.ig_session.specs.declared.session.Step.TheVariants as steps
@@ -14,6 +14,8 @@ pub frames-init : goal.frames-init
 frames-init g c = record {
   since = since_start g.C.Caller.stands (g.C.Caller.seat c.args.caller.now) c.args.caller.now c.args.session.now (g.K.Sink.sink c.args.sink.now);
   seat = refl;
+  lent = refl;
+  kept = refl;
   beside = refl;
 }
 
@@ -57,8 +59,10 @@ frames-preserved g c =
     c.frames.invariant.seat c.in-Ok-Out.field-0-is c.in-Ok-Out.ensures.steps in
     record {
       since = since_out stands seat c.args.caller.now c.frames.caller c.advance.new.caller c.args.session.now c.frames.session c.advance.new.self c.advance.new.self (g.K.Sink.sink c.args.sink.now) (g.K.Sink.sink c.frames.sink) (g.K.Sink.sink c.send_all.new.sink) since st
-          (subst (Gets (g.K.Sink.sink c.frames.sink) (g.K.Sink.sink c.send_all.new.sink)) c.as_slice.ensures c.in-Ok.ensures.ok) refl refl;
+          (subst (SinkAdvances (g.K.Sink.sink c.frames.sink) (g.K.Sink.sink c.send_all.new.sink)) c.as_slice.ensures c.in-Ok.ensures.ok) c.in-Ok.ensures.no_fault refl refl;
       seat = c.advance.ensures.seat ∙ c.frames.invariant.seat;
+      lent = c.advance.ensures.lent ∙ c.frames.invariant.lent;
+      kept = c.advance.ensures.kept ∙ c.frames.invariant.kept;
       beside = c.in-Ok.ensures.beside ∙ c.frames.invariant.beside;
     }
 
@@ -80,7 +84,7 @@ returns-in-Ok-send_all-clause-answers g c =
     let st = at_step stands (g.C.Caller.seat c.frames.caller) seat c.frames.caller c.advance.new.caller c.frames.session c.advance.new.self c.in-Ok-Refused.field-0 (steps.Refused c.in-Ok-Refused.fault)
     c.frames.invariant.seat c.in-Ok-Refused.field-0-is c.in-Ok-Refused.ensures.steps in
     since_refused stands seat c.args.caller.now c.frames.caller c.advance.new.caller c.args.session.now c.frames.session c.advance.new.self c.advance.new.self (g.K.Sink.sink c.args.sink.now) (g.K.Sink.sink c.frames.sink) (g.K.Sink.sink c.send_all-in-Ok-Refused.new.sink) c.args.taken c.in-Ok-Refused.fault since st
-    (subst (Gets (g.K.Sink.sink c.frames.sink) (g.K.Sink.sink c.send_all-in-Ok-Refused.new.sink)) c.as_slice-in-Ok-Refused.ensures c.in-Ok-send_all.ensures.ok)
+    (subst (SinkAdvances (g.K.Sink.sink c.frames.sink) (g.K.Sink.sink c.send_all-in-Ok-Refused.new.sink)) c.as_slice-in-Ok-Refused.ensures c.in-Ok-send_all.ensures.ok) c.in-Ok-send_all.ensures.no_fault
 
 pub returns-in-Err-send_all-2-clause-answers : goal.returns-in-Err-send_all-2-clause-answers
 returns-in-Err-send_all-2-clause-answers g c =

@@ -10,6 +10,8 @@ pub pieces-init : goal.pieces-init
 pieces-init g c = record {
   going = going_start g.C.Caller.stands (g.C.Caller.seat c.args.caller.now) c.args.caller.now c.new-session.result (g.S.Source.source c.args.source.now) (g.K.Sink.sink c.args.sink.now) c.new-session.ensures.frames c.new-session.ensures.is_open;
   seat = refl;
+  lent = refl;
+  kept = refl;
   room = omega (arith, c.in-Ok.ensures.len);
   within = omega arith;
 }
@@ -26,6 +28,8 @@ pieces-preserved g c =
           c.pieces.taken c.in-Ok-take_piece.more c.pieces.missing c.in-Ok-answer_all.more c.pieces.invariant.going takes
           (subst (λ (s : ℕ). AnswersAll g.C.Caller.stands s c.pieces.caller c.answer_all.new.caller c.take_piece.new.session c.answer_all.new.session (g.K.Sink.sink c.pieces.sink) (g.K.Sink.sink c.answer_all.new.sink) c.in-Ok-take_piece.more (Ok c.in-Ok-answer_all.more)) c.pieces.invariant.seat c.in-Ok-answer_all.ensures.answers);
       seat = c.in-Ok-answer_all.ensures.seat ∙ c.pieces.invariant.seat;
+      lent = c.in-Ok-answer_all.ensures.lent ∙ c.pieces.invariant.lent;
+      kept = c.in-Ok-answer_all.ensures.kept ∙ c.pieces.invariant.kept;
       room = c.pieces.invariant.room;
       within = takes.cause.1;
     }

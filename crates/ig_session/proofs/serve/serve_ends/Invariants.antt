@@ -9,6 +9,8 @@ invariant-pieces g l = record {
   going : Going g.C.Caller.stands (g.C.Caller.seat l.fn.caller) l.fn.caller l.caller l.session (g.S.Source.source l.fn.source) (g.S.Source.source l.source)
       (g.K.Sink.sink l.fn.sink) (g.K.Sink.sink l.sink) l.taken l.missing;
   seat : g.C.Caller.seat l.caller ≡ g.C.Caller.seat l.fn.caller;
+  lent : g.C.Caller.lent l.caller ≡ g.C.Caller.lent l.fn.caller;
+  kept : g.C.Caller.kept l.caller ≡ g.C.Caller.kept l.fn.caller;
   room : 0 < vec_len l.buf;
   within : l.taken ≤ byte_limit;
 }

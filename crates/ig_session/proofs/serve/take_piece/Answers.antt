@@ -1,7 +1,7 @@
 use Rattle.std.proofs.Common.{◌++◌, ◌∙◌, sym, ap, subst, refl, arith, length-take-le, take, drop, ◌+◌, List, ℕ}
 use Rattle.std.proofs.lemmas.List.{take-append-le, length-take}
 use Rattle.ig_base.specs.Numbers.{AreBytes}
-use Rattle.ig_link.specs.Calls.{ReadSome}
+use Rattle.ig_link.specs.ReadsAs.{ReadSome}
 use Rattle.ig_session.proofs.TakeLemmas.{takes_limit, takes_fault, takes_bytes, takes_none}
 use Rattle.ig_session.proofs.serve.take_piece.Goals as goal
 
@@ -11,9 +11,8 @@ returns-then-taken-ge-BYTE_LIMIT-clause-takes g c =
 
 pub returns-in-Failed-clause-takes : goal.returns-in-Failed-clause-takes
 returns-in-Failed-clause-takes g c =
-    let fault = c.in-Failed.ensures.answer in
     takes_fault c.args.session.now (g.S.Source.source c.args.source.now) (g.S.Source.source c.read.new.self) c.args.taken c.args.missing
-    fault.gives (fault.is_open, fault.rose, fault.holds_not)
+    (omega (arith, c.if-taken-ge-BYTE_LIMIT.false)) c.in-Failed.ensures.answer
 
 pub returns-in-Ok-clause-takes : goal.returns-in-Ok-clause-takes
 returns-in-Ok-clause-takes g c =
@@ -25,7 +24,7 @@ returns-in-Ok-clause-takes g c =
     let len = length-take-le n buf some.fits in
     takes_bytes c.args.session.now (record { frames = c.feed.new.self; is_open = c.args.session.now.is_open; reply = c.args.session.now.reply })
     (g.S.Source.source c.args.source.now) (g.S.Source.source c.read.new.self) (take n buf) c.args.taken (c.args.taken + n) c.args.missing
-    some.gives some.is_open (ap (λ k. c.args.taken + k) (sym len)) (omega (arith, some.some))
+    some.gives (record { ended = some.is_open; counts = some.counts }) (ap (λ k. c.args.taken + k) (sym len)) (omega (arith, some.some))
     (omega (arith, some.fits, c.read.auto.buf, length-take c.min-room.result c.args.buf.now, c.min-room.ensures, c.requires.within))
     (c.in-Ok.ensures.ok ∙ ap (λ (l : List ℕ). c.args.session.now.frames ++ l) same) refl (subst AreBytes same are)
 
@@ -39,4 +38,6 @@ returns-in-Err-clause-takes g c =
     takes_none c.args.session.now (record { frames = c.feed.new.self; is_open = c.args.session.now.is_open; reply = c.args.session.now.reply })
     (record { frames = c.args.session.now.frames ++ take n buf; is_open = c.args.session.now.is_open; reply = c.args.session.now.reply })
     (g.S.Source.source c.args.source.now) (g.S.Source.source c.read.new.self) (take n buf) c.args.taken c.args.missing
-    some.gives some.is_open refl refl (subst AreBytes same are)
+    some.gives (record { ended = some.is_open; counts = some.counts })
+    (omega (arith, length-take-le n buf some.fits, some.fits, c.read.auto.buf, length-take c.min-room.result c.args.buf.now, c.min-room.ensures, c.requires.within))
+    refl refl (subst AreBytes same are)

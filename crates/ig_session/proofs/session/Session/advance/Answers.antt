@@ -40,7 +40,7 @@ returns-in-Err-clause-steps g c =
     c.clear.ensures c.answer_to-answered.ensures.answers in
     open_err g.C.Caller.stands (g.C.Caller.seat c.args.caller.now) c.args.caller.now c.answer_to-answered.new.caller c.args.self.now
     (record { frames = c.pass.new.self; is_open = c.args.self.now.is_open; reply = c.answer_to-answered.new.reply }) c.in-Body.body.now
-    c.in_ok-asked.asked c.answer_to-answered.result c.in-Err.e c.if-self.true found c.in_ok-asked.ensures.value answers
+    c.in_ok-asked.asked c.answer_to-answered.result c.in-Err.e c.if-self.true refl found c.in_ok-asked.ensures.value answers
 
 pub returns-in-Err-greeted-clause-steps : goal.returns-in-Err-greeted-clause-steps
 returns-in-Err-greeted-clause-steps g c =
@@ -48,7 +48,7 @@ returns-in-Err-greeted-clause-steps g c =
     ∙ passed c.least_len.result c.args.self.now.frames c.in-Body.body.now c.pass-2.new.self c.in-Body.ensures.0 c.in-Body.ensures.1 c.pass-2.ensures in
     hello_err g.C.Caller.stands (g.C.Caller.seat c.args.caller.now) c.args.caller.now c.args.self.now
     (record { frames = c.pass-2.new.self; is_open = c.is_hello-is_accepted.result; reply = c.put_hello_reply-greeted.new.out }) c.in-Body.body.now
-    c.in-Err-greeted.e c.if-self.false found
+    c.in-Err-greeted.e c.if-self.false found c.is_hello-is_accepted.ensures
 
 pub returns-in-Ok-greeted-clause-steps : goal.returns-in-Ok-greeted-clause-steps
 returns-in-Ok-greeted-clause-steps g c =
@@ -67,4 +67,4 @@ returns-in-Ok-2-clause-steps g c =
     let told = c.in-Ok-2.ensures ∙ ap (λ (l : List ℕ). l ++ frames.Frame (cond c.is_hello-is_accepted.result accepting refusing)) c.clear.ensures ∙ ap (λ b. frames.Frame (cond b accepting refusing)) c.is_hello-is_accepted.ensures in
     hello_refused g.C.Caller.stands (g.C.Caller.seat c.args.caller.now) c.args.caller.now c.args.self.now
     (record { frames = c.pass-2.new.self; is_open = c.is_hello-is_accepted.result; reply = c.put_hello_reply-greeted.new.out }) c.in-Body.body.now
-    (Version c.hello_version-version.result) c.if-self.false found told (sym c.is_hello-is_accepted.ensures ∙ c.if-is_accepted.false) (ap Version c.hello_version-version.ensures)
+    (Version c.hello_version-version.result) c.if-self.false found told c.is_hello-is_accepted.ensures (sym c.is_hello-is_accepted.ensures ∙ c.if-is_accepted.false) (ap Version c.hello_version-version.ensures)
