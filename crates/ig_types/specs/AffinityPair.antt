@@ -8,7 +8,8 @@ use Rattle.ig_types.specs.declared.meta.FieldMeta.{FieldMeta}
 use Rattle.ig_types.specs.Join.{same_name}
 use Rattle.ig_types.specs.Registered.{Registered}
 
--- the registry has a type with the first identifier, and its affinity key is the name of its field with the second
+-- the registry has a type with the first identifier, and the affinity key of the type is the name of its
+-- field with the second identifier
 pub record IsAffinityPair (r : Registered) (type_id field_id : ℤ) : Type 0 where
   pub type : TypeMeta
   pub found : map.get r.types type_id ≡ Some type
@@ -23,7 +24,8 @@ field_named fields name = find (λ f. same_name f.name name) fields
 
 -- the identifier of the type and that of the field that its affinity key names, if it names one
 abbrev pub affinity_pair : TypeMeta → Option (ℤ × ℤ)
-affinity_pair t = option_and_then (λ key. option_map (λ f. (t.type_id, f.id)) (field_named t.fields key)) t.affinity
+affinity_pair t =
+    option_and_then (λ key. option_map (λ f. (t.type_id, f.id)) (field_named t.fields key)) t.affinity
 
 -- pairs are ordered by their type identifiers
 abbrev pub by_type : ℤ × ℤ → ℤ × ℤ → Ordering

@@ -6,8 +6,8 @@ use Rattle.ig_types.specs.declared.meta.TypeMeta.{TypeMeta}
 abbrev pub IsWithin : {X : Type 0} → List X → List X → Type 0
 IsWithin {X} xs ys = (x : X) → Contains xs x → Contains ys x
 
--- b says everything that a says: the identifiers, names and enum flags are equal, b has the affinity key of a if a has
--- one, and each field, literal and schema of a is one of b
+-- b says everything that a says: the identifiers, names and enum flags are equal, b has the affinity key of
+-- a if a has one, and each field, literal and schema of a is one of b
 pub record IsBelow (a b : TypeMeta) : Type 0 where
   pub type_id : a.type_id ≡ b.type_id
   pub name : a.name ≡ b.name

@@ -47,17 +47,21 @@ flag_clash _ _ = None
 
 -- two lists of fields clash at the first name that has two kinds or identifiers
 abbrev pub field_clash : List FieldMeta → List FieldMeta → Option Clash
-field_clash xs ys = option_map (λ p. clash.Field p.0 p.1) (first_differing_pair by_field same_field xs ys)
+field_clash xs ys =
+    option_map (λ p. clash.Field p.0 p.1) (first_differing_pair by_field same_field xs ys)
 
 -- two lists of literals clash at the first name that has two ordinals
 abbrev pub literal_clash : List Literal → List Literal → Option Clash
-literal_clash xs ys = option_map (λ p. clash.Literal p.0 p.1) (first_differing_pair by_literal same_literal xs ys)
+literal_clash xs ys =
+    option_map (λ p. clash.Literal p.0 p.1) (first_differing_pair by_literal same_literal xs ys)
 
 -- two lists of schemas clash at the lowest identifier that has two lists of fields
 abbrev pub schema_clash : List SchemaMeta → List SchemaMeta → Option Clash
-schema_clash xs ys = option_map (λ p. clash.Schema p.0 p.1) (first_differing_pair by_schema same_schema xs ys)
+schema_clash xs ys =
+    option_map (λ p. clash.Schema p.0 p.1) (first_differing_pair by_schema same_schema xs ys)
 
--- the first clash of two descriptions, in the order name, affinity key, enum flag, fields, literals, schemas
+-- the first clash of two descriptions, in the order name, affinity key, enum flag, fields, literals,
+-- schemas
 unfoldable pub clash_of : TypeMeta → TypeMeta → Option Clash
 clash_of a b =
     option_or (name_clash a.name b.name)
@@ -79,7 +83,8 @@ joined a b = record {
   schemas = with_members by_schema a.schemas b.schemas;
 }
 
--- without a clash the result is the value, and otherwise it is the clash; each call may also run out of memory
+-- without a clash the result is the value, and otherwise it is the clash; a call may also run out of
+-- memory
 abbrev pub IsOutcome : {V : Type 0} → Result V JoinFault → Option Clash → V → Type 0
 IsOutcome (Ok v) c w = (c ≡ None) × (v ≡ w)
 IsOutcome (Err (fault.Clash d)) c w = c ≡ Some d

@@ -20,9 +20,11 @@ pub record JoinsFromRight (a b c : TypeMeta) : Type 0 where
   pub last : clash_of b c ≡ None
   pub rest : clash_of a (joined b c) ≡ None
 
--- if three descriptions join from the left or from the right, they join from both, and the results are equal
+-- if three descriptions join from the left or from the right, they join from both, and the results are
+-- equal
 abbrev pub JoinAssociates : Type 0
 JoinAssociates =
-    (a b c : TypeMeta) → IsInOrder a → IsInOrder b → IsInOrder c → a.type_id ≡ b.type_id → b.type_id ≡ c.type_id
+    (a b c : TypeMeta) → IsInOrder a → IsInOrder b → IsInOrder c
+    → a.type_id ≡ b.type_id → b.type_id ≡ c.type_id
     → JoinsFromLeft a b c ⊎ JoinsFromRight a b c
     → JoinsFromLeft a b c × JoinsFromRight a b c × (joined (joined a b) c ≡ joined a (joined b c))

@@ -1,5 +1,5 @@
--- The laws that the trait `Member` asks of fields, literals and schemas: the order of the keys is total, and the test of
--- equality is exact. They stand here since an `impl` can cite only `specs/`.
+-- The laws that the trait `Member` requires of fields, literals and schemas: the order of the keys is total,
+-- and the test of equality is exact. They stand here since an `impl` can cite only `specs/`.
 use Rattle.std.specs.Prelude.{◌≡◌, Decides, Bool, refl}
 use Rattle.std.specs.Cmp.{IsTotalOrder, int_cmp_total}
 use Rattle.std.proofs.Common.{ap}
@@ -31,17 +31,22 @@ decides_equivalent r there back decides = (λ is. there (decides.0 is), λ q. de
 -- the test of two fields holds exactly where they are equal
 pub same_field_exact : (x y : FieldMeta) → Decides (same_field x y) (x ≡ y)
 same_field_exact x y =
-    decides_equivalent _ (λ e i. record { name = e.0.0 i; kind = e.0.1 i; id = e.1 i }) (λ e. ((ap (λ z. z.name) e, ap (λ z. z.kind) e), ap (λ z. z.id) e))
-    (Decides-and _ _ (Decides-and _ _ (slice_eq-Decides Decides-eqb x.name y.name _ refl) (Decides-int_eq x.kind y.kind)) (Decides-int_eq x.id y.id))
+    decides_equivalent _ (λ e i. record { name = e.0.0 i; kind = e.0.1 i; id = e.1 i })
+    (λ e. ((ap (λ z. z.name) e, ap (λ z. z.kind) e), ap (λ z. z.id) e))
+    (Decides-and _ _
+    (Decides-and _ _ (slice_eq-Decides Decides-eqb x.name y.name _ refl) (Decides-int_eq x.kind y.kind))
+    (Decides-int_eq x.id y.id))
 
 -- the test of two literals holds exactly where they are equal
 pub same_literal_exact : (x y : Literal) → Decides (same_literal x y) (x ≡ y)
 same_literal_exact x y =
-    decides_equivalent _ (λ e i. record { name = e.0 i; ordinal = e.1 i }) (λ e. (ap (λ z. z.name) e, ap (λ z. z.ordinal) e))
+    decides_equivalent _ (λ e i. record { name = e.0 i; ordinal = e.1 i })
+    (λ e. (ap (λ z. z.name) e, ap (λ z. z.ordinal) e))
     (Decides-and _ _ (slice_eq-Decides Decides-eqb x.name y.name _ refl) (Decides-int_eq x.ordinal y.ordinal))
 
 -- the test of two schemas holds exactly where they are equal
 pub same_schema_exact : (x y : SchemaMeta) → Decides (same_schema x y) (x ≡ y)
 same_schema_exact x y =
-    decides_equivalent _ (λ e i. record { id = e.0 i; ids = e.1 i }) (λ e. (ap (λ z. z.id) e, ap (λ z. z.ids) e))
+    decides_equivalent _ (λ e i. record { id = e.0 i; ids = e.1 i })
+    (λ e. (ap (λ z. z.id) e, ap (λ z. z.ids) e))
     (Decides-and _ _ (Decides-int_eq x.id y.id) (slice_eq-Decides Decides-int_eq x.ids y.ids _ refl))

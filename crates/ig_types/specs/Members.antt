@@ -1,5 +1,5 @@
--- Lists of members (fields, literals or schemas), in which each member has a key. `rank` compares two members by their keys
--- alone, and `same` tests whether two members are equal.
+-- Lists of members (fields, literals or schemas), in which each member has a key. `rank` compares two
+-- members by their keys alone, and `same` tests whether two members are equal.
 use Rattle.std.specs.Prelude.{◌≡◌, ◌≢◌, Bool, not, ◌&&◌, Option, None, List, [], ◌∷◌, Contains, find, option_map}
 use Rattle.std.specs.Option.{option_or}
 use Rattle.std.specs.Ordering.{is_eq, match_ordering}
@@ -22,7 +22,7 @@ pub record DifferFirst {X : Type 0} (rank : X → X → Ordering) (xs ys : List 
   pub differ : Differ rank xs ys x y
   pub none_before : (v w : X) → Differ rank xs ys v w → rank v x ≢ Less
 
--- the list with y inserted in the order of the keys, or the same list if it has a member with the key of y
+-- the list with y inserted in the order of the keys, or the same list if it has a member with this key
 abbrev pub with_member : {X : Type 0} → (X → X → Ordering) → X → List X → List X
 with_member rank y [] = y ∷ []
 with_member rank y (x ∷ xs) = match_ordering (rank y x) (y ∷ x ∷ xs) (x ∷ xs) (x ∷ with_member rank y xs)
@@ -37,6 +37,8 @@ abbrev pub differing_member : {X : Type 0} → (X → X → Ordering) → (X →
 differing_member rank same x ys = find (λ y. is_eq (rank x y) && not (same x y)) ys
 
 -- the first member of xs that differs from a member of ys with the same key, and that member of ys
-abbrev pub first_differing_pair : {X : Type 0} → (X → X → Ordering) → (X → X → Bool) → List X → List X → Option (X × X)
+abbrev pub first_differing_pair :
+    {X : Type 0} → (X → X → Ordering) → (X → X → Bool) → List X → List X → Option (X × X)
 first_differing_pair rank same [] ys = None
-first_differing_pair rank same (x ∷ xs) ys = option_or (option_map (λ y. (x, y)) (differing_member rank same x ys)) (first_differing_pair rank same xs ys)
+first_differing_pair rank same (x ∷ xs) ys =
+    option_or (option_map (λ y. (x, y)) (differing_member rank same x ys)) (first_differing_pair rank same xs ys)

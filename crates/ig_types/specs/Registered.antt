@@ -34,7 +34,7 @@ IsWellFormed r = (id : ℤ) (t : TypeMeta) → map.get r.types id ≡ Some t →
 abbrev pub put_clash : Registered → TypeMeta → Option Clash
 put_clash r m = option_and_then (λ t. clash_of t m) (map.get r.types m.type_id)
 
--- a put of m registers m joined to what is registered under its identifier, or m itself where nothing is
+-- a put of m registers the join of what is registered under its identifier and m, or m where nothing is
 abbrev pub type_after_put : Registered → TypeMeta → TypeMeta
 type_after_put r m = option_map_or (λ t. joined t m) (map.get r.types m.type_id) m
 
@@ -51,13 +51,14 @@ pub record IsPutClash (r : Registered) (m : TypeMeta) (c : Clash) : Type 0 where
 -- t is the least upper bound of the descriptions with the identifier among ms
 pub record IsJoinOf (t : TypeMeta) (id : ℤ) (ms : List TypeMeta) : Type 0 where
   pub above : (m : TypeMeta) → Contains ms m → m.type_id ≡ id → IsBelow m t
-  pub least : (u : TypeMeta) → ((m : TypeMeta) → Contains ms m → m.type_id ≡ id → IsBelow m u) → IsBelow t u
+  pub least :
+      (u : TypeMeta) → ((m : TypeMeta) → Contains ms m → m.type_id ≡ id → IsBelow m u) → IsBelow t u
 
 -- none of the descriptions has the identifier
 abbrev pub HasNoneOf : ℤ → List TypeMeta → Type 0
 HasNoneOf id ms = (m : TypeMeta) → Contains ms m → m.type_id ≢ id
 
--- for each identifier the registry holds the join of its descriptions among ms, and nothing if there are none
+-- for each identifier the registry holds the join of its descriptions among ms, or nothing without any
 abbrev pub HoldsJoinsOf : Registered → List TypeMeta → Type 0
 HoldsJoinsOf r ms = (id : ℤ) → MatchOption (map.get r.types id) (HasNoneOf id ms) (λ t. IsJoinOf t id ms)
 
@@ -68,4 +69,5 @@ admits_name r place name = option_map_or (λ n. same_name n name) (map.get r.nam
 
 -- a name is registered where there is none yet, and a registered name never changes
 abbrev pub registry_after_name : Registered → ℕ × ℤ → List ℕ → Registered
-registry_after_name r place name = option_map_or (λ _. r) (map.get r.names place) (record r { names = map.insert r.names place name })
+registry_after_name r place name =
+    option_map_or (λ _. r) (map.get r.names place) (record r { names = map.insert r.names place name })

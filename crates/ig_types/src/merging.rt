@@ -37,7 +37,8 @@ pub(crate) fn merge<M: Member>(
     requires first { IsStrictlySortedBy M.rank xs.now }
     requires second { IsStrictlySortedBy M.rank ys.now }
     ensures { IsOutcome result
-        (option_map (λ p. M.clash p.0 p.1) (first_differing_pair M.rank M.same xs.entry.now ys.entry.now))
+        (option_map (λ p. M.clash p.0 p.1)
+        (first_differing_pair M.rank M.same xs.entry.now ys.entry.now))
         (with_members M.rank xs.entry.now ys.entry.now) }
 {
     let mut members = Vec::with_capacity(alloc, xs.len().max(ys.len()))?;

@@ -1,15 +1,16 @@
 //! A registry of descriptions and of names: the join of all descriptions of each type, and the name of
 //! each type on each platform.
 
-ghost use Rattle.std.specs.Prelude.{◌≡◌, ◌++◌, ◌∷◌, [], ◌↔◌, ℤ, List, IsTrue, Contains, Some, IfOk, IfErr, IfSome, OnOk, OnErr, option_copied};
+ghost use Rattle.std.specs.Prelude.{◌≡◌, ◌++◌, ◌∷◌, [], ◌↔◌, ℤ, List, Contains, Some, option_copied};
+ghost use Rattle.std.specs.Prelude.{IsTrue, IfOk, IfErr, IfSome, OnOk, OnErr};
 ghost use Rattle.std.specs.FinMap as map;
 ghost use Rattle.std.specs.List.Sorted.{IsStrictlySortedBy};
 ghost use Rattle.ig_types.specs.declared.meta.TypeMeta.{TypeMeta};
 ghost use Rattle.ig_types.specs.IsInOrder.{IsInOrder};
 ghost use Rattle.ig_types.specs.Clash.{IfClash};
 ghost use Rattle.ig_types.specs.Join.{IsOutcome};
-ghost use Rattle.ig_types.specs.Registered.{HoldsJoinsOf, IsPutClash, empty_registry, put_clash, type_after_put, registry_after_put};
-ghost use Rattle.ig_types.specs.Registered.{admits_name, registry_after_name};
+ghost use Rattle.ig_types.specs.Registered.{HoldsJoinsOf, IsPutClash, empty_registry, put_clash};
+ghost use Rattle.ig_types.specs.Registered.{type_after_put, registry_after_put, admits_name, registry_after_name};
 ghost use Rattle.ig_types.specs.AffinityPair.{IsAffinityPair, affinity_pairs_of, by_type};
 
 use crate::affinity::affinity_pair;
@@ -39,9 +40,15 @@ impl Model for Registry {
 
     ghost coded = { coded_registered };
 
-    ghost view = { λ r. record { types = map.from_entries r.types.entries; names = map.from_entries r.names.entries } };
+    ghost view = { λ r. record {
+      types = map.from_entries r.types.entries;
+      names = map.from_entries r.names.entries;
+    } };
 
-    ghost invariant = { λ r. IsWellFormed (record { types = map.from_entries r.types.entries; names = map.from_entries r.names.entries }) };
+    ghost invariant = { λ r. IsWellFormed (record {
+      types = map.from_entries r.types.entries;
+      names = map.from_entries r.names.entries;
+    }) };
 }
 
 impl Registry {
