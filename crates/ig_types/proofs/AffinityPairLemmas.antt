@@ -35,9 +35,9 @@ module _ {X Y : Type 0} (f : X → Option Y) (out : List Y) (whole : List Y) (s 
 
 -- ---- what a filtered list contains
 module _ {X Y : Type 0} (f : X → Option Y) where
-  behind_all : (o : Option Y) (ys : List Y) (y : Y) → Contains ys y → Contains (cons_option o ys) y
-  behind_all None ys y is_in = is_in
-  behind_all (Some w) ys y is_in = contains_later w ys y is_in
+  in_cons_option : (o : Option Y) (ys : List Y) (y : Y) → Contains ys y → Contains (cons_option o ys) y
+  in_cons_option None ys y is_in = is_in
+  in_cons_option (Some w) ys y is_in = contains_later w ys y is_in
 
   filtered : (xs : List X) (x : X) (y : Y) → Contains xs x → f x ≡ Some y → Contains (filter_map f xs) y
   filtered [] x y is_in is = absurd (contains_nil x is_in)
@@ -45,7 +45,7 @@ module _ {X Y : Type 0} (f : X → Option Y) where
     | inl e ↦
         let at_z : Some y ≡ f z = sym (sym (ap f e) ∙ is) in
         subst (λ o. Contains (cons_option o (filter_map f zs)) y) at_z (contains_first y (filter_map f zs))
-    | inr later ↦ behind_all (f z) (filter_map f zs) y (filtered zs x y later is)
+    | inr later ↦ in_cons_option (f z) (filter_map f zs) y (filtered zs x y later is)
   ]
 
   unfiltered : (xs : List X) (y : Y) → Contains (filter_map f xs) y → (x : X) × Contains xs x × (f x ≡ Some y)
@@ -57,7 +57,7 @@ module _ {X Y : Type 0} (f : X → Option Y) where
         | None ↦ λ is h. later h
         | Some w ↦ λ is h. elim (contains_cases w (filter_map f zs) y h) [
           | inl e ↦ (z, contains_first z zs, is ∙ ap Some (sym e))
-          | inr behind ↦ later behind
+          | inr in_rest ↦ later in_rest
         ]
       ] refl is_in
 
@@ -154,9 +154,9 @@ each_value P [] all = tt
 each_value P (e ∷ es) all = (all.0, each_value P es all.1)
 
 -- the affinity pairs ascend where each type has the identifier that is its key
-behind : (id : ℤ) (xs : List (ℤ × TypeMeta)) → Before int_cmp id (keys_of xs) → AllByRecursion (λ (x : ℤ × TypeMeta). x.1.type_id ≡ x.0) xs → AllByRecursion (λ (t : TypeMeta). int_cmp id t.type_id ≡ Less) (values_of xs)
-behind id [] less its = tt
-behind id (x ∷ xs) less its = (ap (int_cmp id) its.0 ∙ less.0, behind id xs less.1 its.1)
+less_than_types : (id : ℤ) (xs : List (ℤ × TypeMeta)) → Before int_cmp id (keys_of xs) → AllByRecursion (λ (x : ℤ × TypeMeta). x.1.type_id ≡ x.0) xs → AllByRecursion (λ (t : TypeMeta). int_cmp id t.type_id ≡ Less) (values_of xs)
+less_than_types id [] less its = tt
+less_than_types id (x ∷ xs) less its = (ap (int_cmp id) its.0 ∙ less.0, less_than_types id xs less.1 its.1)
 
 pub pairs_ascend : (es : List (ℤ × TypeMeta)) → IsStrictlySortedBy int_cmp (keys_of es) → AllByRecursion (λ (e : ℤ × TypeMeta). e.1.type_id ≡ e.0) es → IsStrictlySortedBy by_type (filter_map affinity_pair (values_of es))
 pairs_ascend [] sorted ids = sorted_nil by_type
@@ -169,7 +169,7 @@ pairs_ascend (e ∷ es) sorted ids =
           sorted_cons by_type p (filter_map affinity_pair (values_of es))
           (each_filtered affinity_pair (λ (t : TypeMeta). int_cmp e.0 t.type_id ≡ Less) (λ q. by_type p q ≡ Less)
           (λ t q less has. sym (ap (λ k. int_cmp k q.0) first) ∙ sym (ap (int_cmp e.0) (named_by t q.0 q.1 has).0) ∙ less)
-          (values_of es) (behind e.0 es (sorted_first int_cmp e.0 (keys_of es) sorted) ids.1))
+          (values_of es) (less_than_types e.0 es (sorted_first int_cmp e.0 (keys_of es) sorted) ids.1))
           rest
     ] refl
 

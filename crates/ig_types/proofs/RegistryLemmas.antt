@@ -52,7 +52,7 @@ joins_of_empty r none id =
 abbrev pub IsRegisteredInOrder : Registered → TypeMeta → Type 0
 IsRegisteredInOrder r m = (t : TypeMeta) → get r.types m.type_id ≡ Some t → (t.type_id ≡ m.type_id) × IsInOrder t
 
-module _ (r : Registered) (m : TypeMeta) (stood : IsRegisteredInOrder r m) (order : IsInOrder m) (none : put_clash r m ≡ None) where
+module _ (r : Registered) (m : TypeMeta) (registered : IsRegisteredInOrder r m) (order : IsInOrder m) (none : put_clash r m ≡ None) where
   -- t is in order and the least upper bound of m and the description before, if there was one
   record IsTypeAfterPut (before : Option TypeMeta) (t : TypeMeta) : Type 0 where
     in_order : IsInOrder t
@@ -64,7 +64,7 @@ module _ (r : Registered) (m : TypeMeta) (stood : IsRegisteredInOrder r m) (orde
   after_put_at : (before : Option TypeMeta) → get r.types m.type_id ≡ before → option_and_then (λ t. clash_of t m) before ≡ None → IsTypeAfterPut before (option_map_or (λ t. joined t m) before m)
   after_put_at None is no_clash = record { in_order = order; its_type = refl; above = below_refl m; of_before = refl; least = λ u _ below. below }
   after_put_at (Some t) is no_clash =
-      let known = stood t is in
+      let known = registered t is in
       let it : Joins t m = joins t m known.0 known.1 order no_clash in
       record {
         in_order = it.in_order;

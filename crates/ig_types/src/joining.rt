@@ -53,7 +53,7 @@ pub fn join_associates()
     ensures { JoinAssociates }
 {}
 
-/// The join by the order of [`Clash`]'s variants: each step gives a part of the result or a clash.
+/// The join, in the order of [`Clash`]'s variants: each step gives a field of the result or a clash.
 #[tactic(auto, unfolding(crate::specs::Join::clash_of, crate::specs::Join::joined))]
 fn join_descriptions(alloc: Global, a: &TypeMeta, b: &TypeMeta) -> Result<TypeMeta, JoinFault>
     requires first { IsInOrder a.now }

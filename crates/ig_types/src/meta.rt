@@ -1,4 +1,4 @@
-//! The description of a type: its parts as structs, the test of its order, and its copy.
+//! The description of a type as structs, the test of its order, and its copy.
 
 ghost use Rattle.std.specs.Prelude.{◌≡◌, ◌↔◌, IsTrue, IfOk};
 
