@@ -1,8 +1,10 @@
-pub mod Bound
+pub mod AffinityPair
 pub mod Clash
+pub mod Coded
+pub mod IsBelow
+pub mod IsInOrder
 pub mod Join
-pub mod Keys
-pub mod Laws
-pub mod Parts
+pub mod JoinLaws
+pub mod MemberLaws
+pub mod Members
 pub mod Registered
-pub mod Stored

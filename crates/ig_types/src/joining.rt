@@ -1,10 +1,12 @@
-//! The join of two descriptions of one type.
+//! The join of two descriptions of one type, its laws, and the test that one description says no more
+//! than another.
 
 ghost use Rattle.std.specs.Prelude.{◌≡◌, ◌↔◌, Some, IsTrue, IfSome, IfOk, IfErr, OnOk};
-ghost use Rattle.ig_types.specs.Bound.{Below, IsInOrder, IsLeastAbove};
+ghost use Rattle.ig_types.specs.IsBelow.{IsBelow, IsLeastAbove};
+ghost use Rattle.ig_types.specs.IsInOrder.{IsInOrder};
 ghost use Rattle.ig_types.specs.Clash.{AgreeOnAll, IfClash, IsFirstClash};
 ghost use Rattle.ig_types.specs.Join.{IsOutcome, affinity_clash, clash_of, flag_clash, joined, name_clash};
-ghost use Rattle.ig_types.specs.Laws.{JoinAssociates, JoinCommutes};
+ghost use Rattle.ig_types.specs.JoinLaws.{JoinAssociates, JoinCommutes};
 ghost use Rattle.std.specs.Option.{option_or};
 
 use crate::clash::{Clash, JoinFault};
@@ -13,41 +15,47 @@ use crate::meta::{TypeMeta, copy_text};
 use ig_base::Text;
 use std::alloc::Global;
 
-/// Joins two descriptions of one type: the least description that says all that either says.
+/// Joins two descriptions of one type: the result is the least description that says everything that
+/// either of them says.
 ///
-/// It is refused exactly where the two clash, and the clash that is named is the first: by the order
-/// of [`Clash`]'s variants, then by the parts' names or identifiers.
+/// # Errors
+///
+/// [`JoinFault::Clash`] exactly if the two descriptions clash, with their first clash by the order of
+/// [`Clash`]'s variants and then by the members' names or identifiers. [`JoinFault::NoMemory`] if there
+/// is no memory for the result.
 pub fn join(alloc: Global, a: &TypeMeta, b: &TypeMeta) -> Result<TypeMeta, JoinFault>
     requires one_type { a.now.type_id ≡ b.now.type_id }
     requires first { IsInOrder a.now }
     requires second { IsInOrder b.now }
 
-    // The least above both.
+    // The least upper bound of both.
     ensures least { IfOk result (IsLeastAbove a.now b.now) }
     ensures in_order { IfOk result IsInOrder }
 
-    // Refused exactly where they clash.
+    // Refused exactly if they clash.
     ensures agreed { OnOk result (AgreeOnAll a.now b.now) }
     ensures clash { IfErr result (λ fault. IfClash fault (IsFirstClash a.now b.now)) }
 
-    // The same as a value that other definitions can name.
+    // The same by two functions that other definitions can call.
     ensures outcome { IsOutcome result (clash_of a.now b.now) (joined a.now b.now) }
 {
-    join_parts(alloc, a, b)
+    join_descriptions(alloc, a, b)
 }
 
-/// Law: where two descriptions join, they join in the other order too, and to the same.
+/// Law: if two descriptions join, they join in the other order too, and the results are equal.
 pub fn join_commutes()
     ensures { JoinCommutes }
 {}
 
-/// Law: where three descriptions join from either end, they join from both, and to the same.
+/// Law: if three descriptions join from the left or from the right, they join from both, and the
+/// results are equal.
 pub fn join_associates()
     ensures { JoinAssociates }
 {}
 
+/// The join, in the order of [`Clash`]'s variants: each step gives a field of the result or a clash.
 #[tactic(auto, unfolding(crate::specs::Join::clash_of, crate::specs::Join::joined))]
-fn join_parts(alloc: Global, a: &TypeMeta, b: &TypeMeta) -> Result<TypeMeta, JoinFault>
+fn join_descriptions(alloc: Global, a: &TypeMeta, b: &TypeMeta) -> Result<TypeMeta, JoinFault>
     requires first { IsInOrder a.now }
     requires second { IsInOrder b.now }
     ensures { IsOutcome result (clash_of a.now b.now) (joined a.now b.now) }
@@ -69,6 +77,7 @@ fn join_parts(alloc: Global, a: &TypeMeta, b: &TypeMeta) -> Result<TypeMeta, Joi
     })
 }
 
+/// The common name, or the clash of two names.
 fn join_names(alloc: Global, a: &Text, b: &Text) -> Result<Text, JoinFault>
     ensures { IsOutcome result (name_clash a.now b.now) a.now }
 {
@@ -78,6 +87,7 @@ fn join_names(alloc: Global, a: &Text, b: &Text) -> Result<Text, JoinFault>
     Ok(copy_text(alloc, a)?)
 }
 
+/// The affinity key that either has, or the clash of two keys.
 fn join_affinities(
     alloc: Global,
     a: &Option<Text>,
@@ -95,6 +105,7 @@ fn join_affinities(
     }
 }
 
+/// The common enum flag, or the clash of two flags.
 fn join_flags(a: bool, b: bool) -> Result<bool, JoinFault>
     ensures { IsOutcome result (flag_clash a b) a }
 {
@@ -105,12 +116,12 @@ fn join_flags(a: bool, b: bool) -> Result<bool, JoinFault>
     }
 }
 
-/// Whether the second description says all that the first says.
+/// Whether the second description says everything that the first says.
 pub(crate) fn is_below(a: &TypeMeta, b: &TypeMeta) -> bool
     requires one_type { a.now.type_id ≡ b.now.type_id }
     requires first { IsInOrder a.now }
     requires second { IsInOrder b.now }
-    ensures { IsTrue result ↔ Below a.now b.now }
+    ensures { IsTrue result ↔ IsBelow a.now b.now }
 {
     if a.name.as_str() != b.name.as_str() {
         return false;
@@ -130,7 +141,7 @@ pub(crate) fn is_below(a: &TypeMeta, b: &TypeMeta) -> bool
     is_within(a.schemas.as_slice(), b.schemas.as_slice())
 }
 
-/// Whether an affinity key is the wanted one, if one is wanted.
+/// Whether the affinity key is the wanted one, if one is wanted.
 fn has_affinity(key: &Option<Text>, wanted: &Option<Text>) -> bool
     ensures { IsTrue result ↔ IfSome wanted.now (λ name. key.now ≡ Some name) }
 {

@@ -1,4 +1,4 @@
-//! The description of a type.
+//! The description of a type as structs, the test of its order, and its copy.
 
 ghost use Rattle.std.specs.Prelude.{◌≡◌, ◌↔◌, IsTrue, IfOk};
 
@@ -7,40 +7,43 @@ use crate::order::is_ascending;
 use ig_base::{Items, NoMemory, Text};
 use std::alloc::Global;
 
-/// One field of a type.
+/// A field of a type.
 #[derive(Debug, Drop)]
 pub struct FieldMeta {
     pub name: Text,
     /// The type code of the field's values.
     pub kind: i32,
+    /// The field's identifier, which schemas and affinity pairs cite.
     pub id: i32,
 }
 
-/// One literal of an enum.
+/// A literal of an enum.
 #[derive(Debug, Drop)]
 pub struct Literal {
     pub name: Text,
     pub ordinal: i32,
 }
 
-/// A schema: the identifiers of the fields that an object of this schema has, in their order.
+/// A schema of a type: the fields that an object with this schema has.
 #[derive(Debug, Drop)]
 pub struct SchemaMeta {
     pub id: i32,
+    /// The identifiers of the fields, in the order in which the object has them.
     pub ids: Items<i32>,
 }
 
 /// The description of a type.
 ///
-/// Every call that takes one wants it in order (`IsInOrder`), and every call that gives one promises
-/// it: fields and literals by the bytes of their names, schemas by their identifiers, each ascending
-/// and without repeats, and literals only where it is an enum. Identifier 0, an empty name, two
-/// fields of one identifier, and a schema identifier that isn't computed from its list are all fine.
+/// Every call that takes a description requires that it is in order (`IsInOrder`), and every call that
+/// returns one ensures it: fields and literals are strictly ascending by the UTF-8 bytes of their
+/// names, schemas by their signed identifiers, and only an enum has literals. Type identifier 0, an
+/// empty name, two fields with one identifier, and a schema identifier that is not the hash of its
+/// list are accepted.
 #[derive(Debug, Drop)]
 pub struct TypeMeta {
     pub type_id: i32,
     pub name: Text,
-    /// The name of the field whose value decides where an object lies, if there is one.
+    /// The affinity key: the name of the field whose value decides on which node an object lies.
     pub affinity: Option<Text>,
     pub is_enum: bool,
     pub fields: Items<FieldMeta>,
@@ -48,7 +51,7 @@ pub struct TypeMeta {
     pub schemas: Items<SchemaMeta>,
 }
 
-/// A text of the same bytes.
+/// A copy of the text.
 pub(crate) fn copy_text(alloc: Global, text: &Text) -> Result<Text, NoMemory>
     ensures { IfOk result (λ copy. copy ≡ text.now) }
 {
@@ -56,9 +59,9 @@ pub(crate) fn copy_text(alloc: Global, text: &Text) -> Result<Text, NoMemory>
 }
 
 impl TypeMeta {
-    ghost use Rattle.ig_types.specs.Bound.{IsInOrder};
+    ghost use Rattle.ig_types.specs.IsInOrder.{IsInOrder};
 
-    /// Whether the description is in order, as every call that takes one wants it.
+    /// Whether the description is in order, as every call that takes one requires.
     pub fn is_in_order(&self) -> bool
         ensures { IsTrue result ↔ IsInOrder self.now }
     {
@@ -74,7 +77,11 @@ impl TypeMeta {
         self.is_enum || self.literals.as_slice().is_empty()
     }
 
-    /// The same description, in memory of its own.
+    /// A copy of the description.
+    ///
+    /// # Errors
+    ///
+    /// [`NoMemory`] if there is no memory for the copy.
     pub fn copy(&self, alloc: Global) -> Result<TypeMeta, NoMemory>
         ensures { IfOk result (λ copy. copy ≡ self.now) }
     {

@@ -1,23 +1,23 @@
-//! Whether the parts of a list ascend.
+//! The test that a list of members is in order.
 
 ghost use Rattle.std.specs.Prelude.{◌↔◌, IsTrue};
 ghost use Rattle.std.specs.List.Sorted.{IsStrictlySortedBy};
 
-use crate::part::Part;
+use crate::member::Member;
 
-/// Whether the keys of the parts ascend, each without repeats.
-pub(crate) fn is_ascending<P: Part>(parts: &[P]) -> bool
-    ensures { IsTrue result ↔ IsStrictlySortedBy P.rank parts.now }
+/// Whether the members are strictly ascending by their keys.
+pub(crate) fn is_ascending<M: Member>(members: &[M]) -> bool
+    ensures { IsTrue result ↔ IsStrictlySortedBy M.rank members.now }
 {
-    let Some((mut last, mut rest)) = parts.split_first() else {
+    let Some((mut last, mut rest)) = members.split_first() else {
         return true;
     };
-    while let Some((next, behind)) = rest.split_first() {
+    while let Some((next, after_next)) = rest.split_first() {
         if !last.compare(next).is_lt() {
             return false;
         }
         last = next;
-        rest = behind;
+        rest = after_next;
     }
     true
 }

@@ -12,28 +12,28 @@ fn number(word: Option<&str>) -> i32 {
     word.and_then(|word| word.parse::<i32>().ok()).unwrap_or(0)
 }
 
-/// The rest of each part of a row that begins with a word, as the keys of `P; key a; key b`.
+/// The rest of the first item of a row that begins with a word: `a` for `key ` and `P; key a; enum`.
 fn first_named<'a>(row: &'a str, word: &str) -> Option<&'a str> {
-    row.split("; ").find_map(|part| part.strip_prefix(word))
+    row.split("; ").find_map(|item| item.strip_prefix(word))
 }
 
-fn field(alloc: Global, part: &str) -> Result<FieldMeta, AllocError> {
-    let mut words = part.split(' ');
+fn field(alloc: Global, item: &str) -> Result<FieldMeta, AllocError> {
+    let mut words = item.split(' ');
     let name = text(alloc, words.next().unwrap_or(""))?;
     let kind = number(words.next());
     let id = number(words.next());
     Ok(FieldMeta { name, kind, id })
 }
 
-fn literal(alloc: Global, part: &str) -> Result<Literal, AllocError> {
-    let mut words = part.split(' ');
+fn literal(alloc: Global, item: &str) -> Result<Literal, AllocError> {
+    let mut words = item.split(' ');
     let name = text(alloc, words.next().unwrap_or(""))?;
     let ordinal = number(words.next());
     Ok(Literal { name, ordinal })
 }
 
-fn schema(alloc: Global, part: &str) -> Result<SchemaMeta, AllocError> {
-    let mut words = part.split(' ');
+fn schema(alloc: Global, item: &str) -> Result<SchemaMeta, AllocError> {
+    let mut words = item.split(' ');
     let id = number(words.next());
     let mut ids = Vec::new(alloc);
     for word in words {
@@ -45,9 +45,9 @@ fn schema(alloc: Global, part: &str) -> Result<SchemaMeta, AllocError> {
 
 fn fields(alloc: Global, row: &str) -> Result<Items<FieldMeta>, AllocError> {
     let mut fields = Vec::new(alloc);
-    for part in row.split("; ") {
-        if let Some(part) = part.strip_prefix("field ") {
-            fields.push(field(alloc, part)?)?;
+    for item in row.split("; ") {
+        if let Some(item) = item.strip_prefix("field ") {
+            fields.push(field(alloc, item)?)?;
         }
     }
     Ok(Items::new(fields))
@@ -55,9 +55,9 @@ fn fields(alloc: Global, row: &str) -> Result<Items<FieldMeta>, AllocError> {
 
 fn literals(alloc: Global, row: &str) -> Result<Items<Literal>, AllocError> {
     let mut literals = Vec::new(alloc);
-    for part in row.split("; ") {
-        if let Some(part) = part.strip_prefix("literal ") {
-            literals.push(literal(alloc, part)?)?;
+    for item in row.split("; ") {
+        if let Some(item) = item.strip_prefix("literal ") {
+            literals.push(literal(alloc, item)?)?;
         }
     }
     Ok(Items::new(literals))
@@ -65,15 +65,17 @@ fn literals(alloc: Global, row: &str) -> Result<Items<Literal>, AllocError> {
 
 fn schemas(alloc: Global, row: &str) -> Result<Items<SchemaMeta>, AllocError> {
     let mut schemas = Vec::new(alloc);
-    for part in row.split("; ") {
-        if let Some(part) = part.strip_prefix("schema ") {
-            schemas.push(schema(alloc, part)?)?;
+    for item in row.split("; ") {
+        if let Some(item) = item.strip_prefix("schema ") {
+            schemas.push(schema(alloc, item)?)?;
         }
     }
     Ok(Items::new(schemas))
 }
 
-/// The description that a row spells, as `P; key a; field a 3 97; enum; literal A 0; schema -1 1 2`.
+/// The description that a row says: name, affinity key, fields (name, kind, identifier), enum flag,
+/// literals (name, ordinal) and schemas (identifier, identifiers of fields), as in
+/// `P; key a; field a 3 97; enum; literal A 0; schema -1 1 2`.
 fn described(alloc: Global, type_id: i32, row: &str) -> Result<TypeMeta, AllocError> {
     let affinity = match first_named(row, "key ") {
         Some(key) => Some(text(alloc, key)?),
@@ -90,7 +92,7 @@ fn described(alloc: Global, type_id: i32, row: &str) -> Result<TypeMeta, AllocEr
     })
 }
 
-/// A clash of a kind, from what each of the two says.
+/// A clash of a kind, from what each of two descriptions says.
 fn clash(alloc: Global, kind: &str, a: &str, b: &str) -> Result<Clash, AllocError> {
     Ok(match kind {
         "name" => Clash::Name(text(alloc, a)?, text(alloc, b)?),
@@ -106,7 +108,7 @@ fn shown(alloc: Global, value: &impl Debug) -> Result<String, AllocError> {
     format!(in alloc; "{value:?}")
 }
 
-/// What the join of two rows shows.
+/// The join of two rows, or its fault, as `{:?}` prints it.
 fn outcome(alloc: Global, a: &str, b: &str) -> Result<String, AllocError> {
     let a = described(alloc, 5, a)?;
     let b = described(alloc, 5, b)?;
@@ -119,7 +121,7 @@ fn outcome(alloc: Global, a: &str, b: &str) -> Result<String, AllocError> {
     }
 }
 
-/// Two rows, and their join.
+/// Two rows and their join.
 static JOINS: [(&str, &str, &str); 7] = [
     ("P", "P", "P"),
     (
@@ -146,7 +148,7 @@ static JOINS: [(&str, &str, &str); 7] = [
     ),
 ];
 
-/// The first row whose join isn't the wanted one.
+/// The first row with another join.
 fn wrong_join(alloc: Global) -> Result<Option<&'static str>, NoMemory> {
     for &(a, b, want) in &JOINS {
         let want = described(alloc, 5, want)?.copy(alloc)?;
@@ -158,14 +160,14 @@ fn wrong_join(alloc: Global) -> Result<Option<&'static str>, NoMemory> {
 }
 
 #[test]
-fn joins(rt: HostRuntime) -> Result<(), Fail> {
+fn two_descriptions_join(rt: HostRuntime) -> Result<(), Fail> {
     join_commutes();
     join_associates();
     assert_eq!(rt; wrong_join(rt.alloc())?, None);
     Ok(())
 }
 
-/// Two rows that clash, the kind of their first clash, and what each of the two says.
+/// Two rows that clash, the kind of their first clash, and what each of them says.
 static CLASHES: [(&str, &str, &str, &str, &str); 8] = [
     ("O; key a; enum", "P; key b", "name", "O", "P"),
     ("P; key a; enum", "P; key b", "affinity", "a", "b"),
@@ -207,7 +209,7 @@ static CLASHES: [(&str, &str, &str, &str, &str); 8] = [
     ),
 ];
 
-/// The first row that clashes otherwise.
+/// The first row with another clash.
 fn wrong_clash(alloc: Global) -> Result<Option<&'static str>, AllocError> {
     for &(a, b, kind, of_a, of_b) in &CLASHES {
         let want = JoinFault::Clash(clash(alloc, kind, of_a, of_b)?);
@@ -219,12 +221,81 @@ fn wrong_clash(alloc: Global) -> Result<Option<&'static str>, AllocError> {
 }
 
 #[test]
-fn clashes(rt: HostRuntime) -> Result<(), Fail> {
+fn the_first_clash_is_named(rt: HostRuntime) -> Result<(), Fail> {
     assert_eq!(rt; wrong_clash(rt.alloc())?, None);
     Ok(())
 }
 
-/// Puts the description of a row, and shows what stands then, behind the word `no` where it is refused.
+/// Two rows that clash, and what the refusal prints.
+static TEXTS: [(&str, &str, &str); 7] = [
+    (
+        "O",
+        "P",
+        "the two descriptions clash: the type has the name `O` in one description and `P` in the other",
+    ),
+    (
+        "P; key a",
+        "P; key b",
+        "the two descriptions clash: the type has the affinity key `a` in one description and `b` in the other",
+    ),
+    (
+        "P; enum",
+        "P",
+        "the two descriptions clash: the type is an enum in one description and not in the other",
+    ),
+    (
+        "P; field a 3 97",
+        "P; field a 4 98",
+        "the two descriptions clash: field `a` has kind 3 in one description and 4 in the other",
+    ),
+    (
+        "P; field a 3 97",
+        "P; field a 3 -98",
+        "the two descriptions clash: field `a` has identifier 97 in one description and -98 in the other",
+    ),
+    (
+        "P; enum; literal A 0",
+        "P; enum; literal A 1",
+        "the two descriptions clash: literal `A` has ordinal 0 in one description and 1 in the other",
+    ),
+    (
+        "P; schema -1 1 2",
+        "P; schema -1 1",
+        "the two descriptions clash: schema -1 has different fields in the two descriptions",
+    ),
+];
+
+/// What the refusal of a join prints.
+fn refusal(alloc: Global, a: &str, b: &str) -> Result<String, AllocError> {
+    let a = described(alloc, 5, a)?;
+    let b = described(alloc, 5, b)?;
+    if a.type_id != b.type_id || !a.is_in_order() || !b.is_in_order() {
+        return String::from_str(alloc, "out of order");
+    }
+    match join(alloc, &a, &b) {
+        Ok(_) => String::from_str(alloc, "joined"),
+        Err(fault) => format!(in alloc; "{fault}"),
+    }
+}
+
+/// The first row whose refusal prints another text.
+fn wrong_text(alloc: Global) -> Result<Option<&'static str>, AllocError> {
+    for &(a, b, text) in &TEXTS {
+        if refusal(alloc, a, b)?.as_str() != text {
+            return Ok(Some(a));
+        }
+    }
+    Ok(None)
+}
+
+#[test]
+fn a_refusal_says_what_clashes(rt: HostRuntime) -> Result<(), Fail> {
+    assert_eq!(rt; wrong_text(rt.alloc())?, None);
+    Ok(())
+}
+
+/// Puts the description of a row. Answers what is registered then, after the word `no` if the put was
+/// refused.
 fn put(alloc: Global, registry: &mut Registry, id: i32, row: &str) -> Result<String, AllocError> {
     let meta = described(alloc, id, row)?;
     if !meta.is_in_order() {
@@ -235,11 +306,11 @@ fn put(alloc: Global, registry: &mut Registry, id: i32, row: &str) -> Result<Str
     } else {
         "no "
     };
-    let stands = registry.get(id);
-    format!(in alloc; "{word}{stands:?}")
+    let registered = registry.get(id);
+    format!(in alloc; "{word}{registered:?}")
 }
 
-/// What is put in turn, the word that is shown with it, and what stands then.
+/// What is put in turn, the word that answers it, and what is registered then.
 static PUTS: [(i32, &str, &str, &str); 7] = [
     (5, "P; field a 3 97", "", "P; field a 3 97"),
     (
@@ -265,11 +336,11 @@ static PUTS: [(i32, &str, &str, &str); 7] = [
     (0, "P; key c; field b 9 98", "", "P; key c; field b 9 98"),
 ];
 
-/// The first row that leaves something else.
+/// The first put that leaves something else.
 fn wrong_put(alloc: Global, registry: &mut Registry) -> Result<Option<&'static str>, AllocError> {
-    for &(id, row, word, stands) in &PUTS {
-        let stands = Some(described(alloc, id, stands)?);
-        if put(alloc, registry, id, row)? != format!(in alloc; "{word}{stands:?}")? {
+    for &(id, row, word, registered) in &PUTS {
+        let registered = Some(described(alloc, id, registered)?);
+        if put(alloc, registry, id, row)? != format!(in alloc; "{word}{registered:?}")? {
             return Ok(Some(row));
         }
     }
@@ -277,7 +348,7 @@ fn wrong_put(alloc: Global, registry: &mut Registry) -> Result<Option<&'static s
 }
 
 #[test]
-fn registers(rt: HostRuntime) -> Result<(), Fail> {
+fn a_registry_joins_what_is_put(rt: HostRuntime) -> Result<(), Fail> {
     let mut registry = Registry::new(rt.alloc());
     assert!(rt; registry.get(5).is_none());
     assert_eq!(rt; wrong_put(rt.alloc(), &mut registry)?, None);
@@ -286,7 +357,7 @@ fn registers(rt: HostRuntime) -> Result<(), Fail> {
     Ok(())
 }
 
-/// What is named in turn, whether that is done, and the name that stands then.
+/// The names that are set in turn (platform, type identifier, name), the answer, and the name then.
 static NAMES: [(u8, i32, &str, bool, &str); 5] = [
     (0, 5, "P", true, "P"),
     (0, 5, "Q", false, "P"),
@@ -295,13 +366,13 @@ static NAMES: [(u8, i32, &str, bool, &str); 5] = [
     (0, -5, "", true, ""),
 ];
 
-/// The first name that is set otherwise.
+/// The first name that is answered otherwise.
 fn wrong_name(alloc: Global) -> Result<Option<&'static str>, AllocError> {
     let mut registry = Registry::new(alloc);
-    for &(platform, id, name, want, stands) in &NAMES {
+    for &(platform, id, name, want, known) in &NAMES {
         let yes = registry.set_name(platform, id, text(alloc, name)?).ok();
         let found = registry.name(platform, id).map(Text::as_str);
-        if yes != Some(want) || found != Some(stands) {
+        if yes != Some(want) || found != Some(known) {
             return Ok(Some(name));
         }
     }
@@ -309,7 +380,7 @@ fn wrong_name(alloc: Global) -> Result<Option<&'static str>, AllocError> {
 }
 
 #[test]
-fn names(rt: HostRuntime) -> Result<(), Fail> {
+fn a_name_is_set_once(rt: HostRuntime) -> Result<(), Fail> {
     assert_eq!(rt; wrong_name(rt.alloc())?, None);
     Ok(())
 }

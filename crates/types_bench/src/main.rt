@@ -1,7 +1,8 @@
-//! Puts types of a hundred fields into a registry, twice, and tells the time for each field.
+//! Measures a registry: puts types of a hundred fields, twice, and prints the time for each field.
 //!
-//! The word is the number of types, 1000 without one. Standard output depends on it alone; the times
-//! go to standard error. The first puts copy each description, the second say nothing new.
+//! The argument is the number of types; without one it is 1000. Standard output depends on this number
+//! alone, and the times go to standard error. The first round copies each description, the second
+//! finds that it says nothing new.
 #![tactic(auto)]
 
 use anyhow::{Context, Result, ensure};
@@ -14,7 +15,7 @@ use std::time::Instant;
 
 const FIELDS: i32 = 100;
 
-/// A type whose affinity key is its last field.
+/// A description of a type whose affinity key is its last field.
 fn described(alloc: Global, type_id: i32) -> Result<TypeMeta, AllocError> {
     let mut fields = Vec::new(alloc);
     for id in 0..FIELDS {
@@ -32,7 +33,7 @@ fn described(alloc: Global, type_id: i32) -> Result<TypeMeta, AllocError> {
     })
 }
 
-/// Puts all types.
+/// Puts all descriptions.
 fn put_all(registry: &mut Registry, types: &[TypeMeta]) -> Result<()> {
     for meta in types {
         ensure!(meta.is_in_order(), "a type is out of order");
@@ -41,7 +42,7 @@ fn put_all(registry: &mut Registry, types: &[TypeMeta]) -> Result<()> {
     Ok(())
 }
 
-/// Puts all types, and tells the time for each field.
+/// Puts all descriptions and prints the time for each field, in nanoseconds.
 fn timed(
     rt: &(impl Clock + Eprint),
     round: &str,
@@ -74,7 +75,7 @@ fn main(rt: HostRuntime) -> Result<()> {
     let pairs = registry.affinity_pairs(alloc)?.into_std();
     let nanos = start.elapsed(&rt)?.as_nanos();
     eprintln!(&rt; "pairs: {nanos} ns")?;
-    let stand = pairs.len();
-    println!(rt; "{count} types put twice, {stand} pairs")?;
+    let pair_count = pairs.len();
+    println!(rt; "{count} types put twice, {pair_count} pairs")?;
     Ok(())
 }

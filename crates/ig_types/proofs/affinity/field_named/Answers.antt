@@ -3,7 +3,7 @@ use Rattle.std.proofs.lemmas.Fn.{always_returns_same}
 use Rattle.std.specs.Ordering.{nat_cmp}
 use Rattle.std.specs.Cmp.Lexicographic.{slice_cmp}
 use Rattle.ig_types.specs.declared.meta.FieldMeta.{FieldMeta}
-use Rattle.ig_types.proofs.Search.{searched_field}
+use Rattle.ig_types.proofs.SearchLemmas.{searched_field}
 use Rattle.ig_types.proofs.affinity.field_named.Goals as goal
 
 pub returns-in-Ok : goal.returns-in-Ok

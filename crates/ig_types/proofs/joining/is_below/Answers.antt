@@ -1,6 +1,6 @@
 use Rattle.std.proofs.Common.{◌≡◌, rules, false, Some, IfSome, IsTrue}
-use Rattle.ig_types.specs.Bound.{Within}
-use Rattle.ig_types.proofs.WithinSteps.{refused}
+use Rattle.ig_types.specs.IsBelow.{IsWithin}
+use Rattle.ig_types.proofs.WithinLemmas.{refused}
 use Rattle.ig_types.proofs.joining.is_below.Goals as goal
 
 pub returns-then-not-is_within : goal.returns-then-not-is_within
@@ -14,8 +14,8 @@ returns c =
     let name : c.args.a.now.name ≡ c.args.b.now.name = search rules in
     let is_enum : c.args.a.now.is_enum ≡ c.args.b.now.is_enum = search rules in
     let affinity : IfSome c.args.a.now.affinity (λ key. c.args.b.now.affinity ≡ Some key) = search rules in
-    let fields : Within c.args.a.now.fields c.args.b.now.fields = rw (c.as_slice.ensures, c.as_slice-2.ensures) at c.is_within.ensures.0 (search rules) in
-    let literals : Within c.args.a.now.literals c.args.b.now.literals = rw (c.as_slice-3.ensures, c.as_slice-4.ensures) at c.is_within-2.ensures.0 (search rules) in (
+    let fields : IsWithin c.args.a.now.fields c.args.b.now.fields = rw (c.as_slice.ensures, c.as_slice-2.ensures) at c.is_within.ensures.0 (search rules) in
+    let literals : IsWithin c.args.a.now.literals c.args.b.now.literals = rw (c.as_slice-3.ensures, c.as_slice-4.ensures) at c.is_within-2.ensures.0 (search rules) in (
       λ yes. record {
         type_id = c.requires.one_type;
         name = name;

@@ -1,4 +1,4 @@
-use Rattle.ig_types.proofs.LawProofs.{join_associates}
+use Rattle.ig_types.proofs.JoinLawLemmas.{join_associates}
 use Rattle.ig_types.proofs.joining.join_associates.Goals as goal
 
 pub returns : goal.returns

@@ -1,4 +1,4 @@
-use Rattle.ig_types.proofs.LawProofs.{join_commutes}
+use Rattle.ig_types.proofs.JoinLawLemmas.{join_commutes}
 use Rattle.ig_types.proofs.joining.join_commutes.Goals as goal
 
 pub returns : goal.returns

@@ -1,8 +1,9 @@
 use Rattle.std.proofs.Common.{◌≡◌, ◌++◌, sym, ap, subst, ◌∙◌, filter_map}
 use Rattle.std.specs.List.{AllByRecursion}
-use Rattle.ig_types.specs.Bound.{IsInOrder}
-use Rattle.ig_types.specs.Registered.{IsKept, affinity_pair, pairs_of}
-use Rattle.ig_types.proofs.Pairs.{pairs_are, pairs_more, pairs_skip, types_in_order, ShowsPairs, shows_pairs}
+use Rattle.ig_types.specs.IsInOrder.{IsInOrder}
+use Rattle.ig_types.specs.Registered.{IsWellFormed}
+use Rattle.ig_types.specs.AffinityPair.{affinity_pair, affinity_pairs_of}
+use Rattle.ig_types.proofs.AffinityPairLemmas.{pairs_are, pairs_more, pairs_skip, types_in_order, PairFacts, pair_facts}
 use Rattle.std.proofs.lemmas.List.{append-nil}
 use Rattle.ig_types.proofs.registry.Registry.affinity_pairs.Goals as goal
 
@@ -13,9 +14,9 @@ loop-meta-init c =
       told =
           ap (λ ps. ps ++ filter_map affinity_pair c.into_iter-meta-iterator.result) c.new-pairs.ensures.items
           ∙ sym (ap (filter_map affinity_pair) starts)
-          ∙ pairs_are c.args.self.now c.self.inside.types.entries c.values-meta-items.ensures.ordered (ap (λ r. r.types) c.self.view_is) (subst IsKept c.self.view_is c.self.invariant);
+          ∙ pairs_are c.args.self.now c.self.inside.types.entries c.values-meta-items.ensures.ordered (ap (λ r. r.types) c.self.view_is) (subst IsWellFormed c.self.view_is c.self.invariant);
       in_order = subst (AllByRecursion IsInOrder) starts
-          (types_in_order c.args.self.now c.self.inside.types.entries c.values-meta-items.ensures.ordered (ap (λ r. r.types) c.self.view_is) (subst IsKept c.self.view_is c.self.invariant));
+          (types_in_order c.args.self.now c.self.inside.types.entries c.values-meta-items.ensures.ordered (ap (λ r. r.types) c.self.view_is) (subst IsWellFormed c.self.view_is c.self.invariant));
     }
 
 pub affinity_pair-requires : goal.affinity_pair-requires
@@ -35,9 +36,9 @@ loop-meta-preserved c = record {
 
 pub returns : goal.returns
 returns c =
-    let are : c.new.result ≡ pairs_of c.args.self.now =
+    let are : c.new.result ≡ affinity_pairs_of c.args.self.now =
     c.new.ensures ∙ sym (append-nil c.loop-meta.pairs.items)
     ∙ sym (ap (λ ts. c.loop-meta.pairs.items ++ filter_map affinity_pair ts) c.in-None.ensures.steps.0) ∙ c.loop-meta.invariant.told in
-    let it : ShowsPairs c.args.self.now c.new.result =
-    shows_pairs c.args.self.now c.self.inside.types.entries c.values-meta-items.ensures.ordered (ap (λ r. r.types) c.self.view_is) (subst IsKept c.self.view_is c.self.invariant) c.new.result are
+    let it : PairFacts c.args.self.now c.new.result =
+    pair_facts c.args.self.now c.self.inside.types.entries c.values-meta-items.ensures.ordered (ap (λ r. r.types) c.self.view_is) (subst IsWellFormed c.self.view_is c.self.invariant) c.new.result are
     in record { ascending = it.ascending; exactly = it.exactly; pairs = are }

@@ -11,17 +11,18 @@ use Rattle.std.proofs.lemmas.List.Elements.{Contains-get_or}
 use Rattle.std.proofs.lemmas.List.Sorted.{searchable_from_sorted}
 use Rattle.std.proofs.lemmas.Map.Lookups.{exact_bytes}
 use Rattle.ig_types.specs.declared.meta.FieldMeta.{FieldMeta}
-use Rattle.ig_types.specs.Bound.{by_field}
+use Rattle.ig_types.specs.IsInOrder.{by_field}
 use Rattle.ig_types.specs.Join.{same_name}
-use Rattle.ig_types.specs.Keys.{same_name_exact, by_field_total}
-use Rattle.ig_types.specs.Registered.{field_named}
-use Rattle.ig_types.proofs.Ascending.{each_at, sorted_first, sorted_later, more_from_less}
+use Rattle.ig_types.specs.MemberLaws.{by_field_total}
+use Rattle.ig_types.proofs.NameLemmas.{same_name_exact}
+use Rattle.ig_types.specs.AffinityPair.{field_named}
+use Rattle.ig_types.proofs.AscendingLemmas.{each_at, sorted_first, sorted_later, more_from_less}
 
--- how a field compares with a name
+-- the order of a field and a name
 abbrev against : List ℕ → FieldMeta → Ordering
 against key f = slice_cmp nat_cmp f.name key
 
--- a field that ties with the name has it, and one that doesn't hasn't
+-- a field ties with a name exactly where it has this name
 tied_name : (f : FieldMeta) (key : List ℕ) → against key f ≡ Equal → same_name f.name key ≡ true
 tied_name f key tied = (same_name_exact f.name key).1 (exact_bytes f.name key tied)
 
@@ -34,7 +35,7 @@ apart_name f key apart = no (same_name f.name key) refl
         let one : f.name ≡ key = (same_name_exact f.name key).0 e in
         absurd (apart (ap (slice_cmp nat_cmp f.name) (sym one) ∙ tied_itself nat_list_cmp_total f.name))
 
--- neighbors ascend
+-- each field is less than the next
 ascending : (fields : List FieldMeta) → IsStrictlySortedBy by_field fields → (k : ℕ) (d : FieldMeta) → k + 1 < length fields → by_field (get_or fields k d) (get_or fields (k + 1) d) ≡ Less
 ascending [] sorted k d lt = absurd (omega arith)
 ascending (f ∷ fs) sorted zero d lt = each_at (λ x. by_field f x ≡ Less) fs (get_or fs 0 d) (sorted_first by_field f fs sorted) (Contains-get_or fs 0 d (omega arith))
@@ -44,7 +45,7 @@ searchable : (fields : List FieldMeta) → IsStrictlySortedBy by_field fields �
 searchable fields sorted k d low lt =
     ap is_lt (more_from_less by_field by_field_total (get_or fields k d) (get_or fields (k + 1) d) (ascending fields sorted k d lt))
 
--- what is found at a place is what a scan finds
+-- the field at an index that ties with the name is what a scan finds
 at_place : (fields : List FieldMeta) (key : List ℕ) → IsStrictlySortedBy by_field fields → (i : ℕ) (d : FieldMeta) → i < length fields → against key (get_or fields i d) ≡ Equal → field_named fields key ≡ Some (get_or fields i d)
 at_place [] key sorted i d lt tied = absurd (omega arith)
 at_place (f ∷ fs) key sorted zero d lt tied = ap (λ b. cond b (Some f) (field_named fs key)) (tied_name f key tied)
@@ -55,7 +56,7 @@ at_place (f ∷ fs) key sorted (suc i) d lt tied =
     ap (λ b. cond b (Some f) (field_named fs key)) (apart_name f key (λ e. cc))
     ∙ at_place fs key (sorted_later by_field f fs sorted) i d (omega arith) tied
 
--- where none ties, a scan finds nothing
+-- where no field ties with the name, a scan finds nothing
 nowhere : (fields : List FieldMeta) (key : List ℕ) → ((k : ℕ) (d : FieldMeta) → k < length fields → against key (get_or fields k d) ≡ Equal → ⊥) → field_named fields key ≡ None
 nowhere [] key none = refl
 nowhere (f ∷ fs) key none =

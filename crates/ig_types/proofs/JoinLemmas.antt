@@ -1,4 +1,4 @@
--- The join of two descriptions is the least one above both, and is there exactly where they don't clash.
+-- The join of two descriptions is their least upper bound, and exists exactly where they don't clash.
 use Rattle.std.proofs.Common.{◌≡◌, ◌≢◌, ℕ, Bool, true, false, cond, List, [], Option, Some, None, IfSome, Result, Ok, Err, IfOk, IfErr, OnOk, refl, sym, ap, subst, ◌∙◌, inl, inr}
 use Rattle.std.specs.Option.{option_or}
 use Rattle.ig_types.specs.declared.meta.TypeMeta.{TypeMeta}
@@ -9,13 +9,15 @@ use Rattle.ig_types.specs.declared.clash.Clash.{Clash}
 use Rattle.ig_types.specs.declared.clash.Clash.TheVariants.{Name, Affinity, EnumFlag, Field, Literal, Schema}
 use Rattle.ig_types.specs.declared.clash.JoinFault.{JoinFault}
 use Rattle.ig_types.specs.declared.clash.JoinFault.TheVariants as fault
-use Rattle.ig_types.specs.Bound.{by_field, by_literal, by_schema, IsInOrder, Below, IsLeastAbove}
+use Rattle.ig_types.specs.IsInOrder.{by_field, by_literal, by_schema, IsInOrder}
+use Rattle.ig_types.specs.IsBelow.{IsBelow, IsLeastAbove}
 use Rattle.ig_types.specs.Clash.{AffinitiesAgree, HeadsAgree, AgreeOnAll, IsFirstClash, IfClash}
 use Rattle.ig_types.specs.Join.{same_name, same_field, same_literal, same_schema, name_clash, affinity_clash, flag_clash, clash_of, joined, IsOutcome}
-use Rattle.ig_types.specs.Keys.{same_name_exact, same_field_exact, same_literal_exact, same_schema_exact, by_field_total, by_literal_total, by_schema_total}
-use Rattle.ig_types.specs.Parts.{with_parts, first_rivals}
-use Rattle.ig_types.proofs.Members.{first_within, second_within, both_within, sorted_with_parts, agree_within, same_from_within}
-use Rattle.ig_types.proofs.Rivals.{none_both, some_either, none_under, some_under, agree_from_none, differ_from_some, agree_apart}
+use Rattle.ig_types.specs.MemberLaws.{same_field_exact, same_literal_exact, same_schema_exact, by_field_total, by_literal_total, by_schema_total}
+use Rattle.ig_types.proofs.NameLemmas.{same_name_exact}
+use Rattle.ig_types.specs.Members.{with_members, first_differing_pair}
+use Rattle.ig_types.proofs.MemberLemmas.{first_within, second_within, both_within, sorted_with_members, agree_within, same_from_within}
+use Rattle.ig_types.proofs.DifferenceLemmas.{none_both, some_either, none_under, some_under, agree_from_none, differ_from_some, agree_apart}
 
 -- ---- names, affinity keys and flags
 same_names : (m n : List ℕ) → name_clash m n ≡ None → m ≡ n
@@ -25,7 +27,7 @@ same_names m n none =
       | false ↦ λ is e. absurd (cc)
     ] refl none
 
--- the test of two names either way
+-- two names clash exactly where they differ
 tested : {C : Type 0} (m n : List ℕ) (c d : C) → cond (same_name m n) None (Some c) ≡ Some d → (c ≡ d) × (m ≢ n)
 tested m n c d found =
     elim (same_name m n) as (λ b. same_name m n ≡ b → cond b None (Some c) ≡ Some d → (c ≡ d) × (m ≢ n)) [
@@ -59,7 +61,7 @@ two_flags true false c found = (λ e. cc, cc)
 two_flags false true c found = (λ e. cc, cc)
 two_flags false false c found = absurd (cc)
 
--- ---- no clash, or the first one
+-- ---- no clash, or the first clash
 pub agree_unless_clash : (a b : TypeMeta) → clash_of a b ≡ None → AgreeOnAll a b
 unfolding clash_of
 agree_unless_clash a b none =
@@ -86,16 +88,16 @@ first_clash a b order c found = elim (some_either _ _ c found) [
       | inr no_flag ↦
           let heads : HeadsAgree a b = record { name = name; affinity = affinity; is_enum = same_flags a.is_enum b.is_enum no_flag.0 } in
           elim (some_either _ _ c no_flag.1) [
-            | inl at_field ↦ let it = some_under (λ (p : FieldMeta × FieldMeta). Field p.0 p.1) (first_rivals by_field same_field a.fields b.fields) c at_field in
+            | inl at_field ↦ let it = some_under (λ (p : FieldMeta × FieldMeta). Field p.0 p.1) (first_differing_pair by_field same_field a.fields b.fields) c at_field in
                 subst (IsFirstClash a b) it.2 (heads, differ_from_some by_field same_field same_field_exact by_field_total a.fields b.fields order.fields it.0 it.1)
             | inr no_field ↦
                 let fields = agree_from_none by_field same_field same_field_exact a.fields b.fields (none_under _ _ no_field.0) in
                 elim (some_either _ _ c no_field.1) [
-                  | inl at_literal ↦ let it = some_under (λ (p : LiteralMeta × LiteralMeta). Literal p.0 p.1) (first_rivals by_literal same_literal a.literals b.literals) c at_literal in
+                  | inl at_literal ↦ let it = some_under (λ (p : LiteralMeta × LiteralMeta). Literal p.0 p.1) (first_differing_pair by_literal same_literal a.literals b.literals) c at_literal in
                       subst (IsFirstClash a b) it.2 (heads, fields, differ_from_some by_literal same_literal same_literal_exact by_literal_total a.literals b.literals order.literals it.0 it.1)
                   | inr no_literal ↦
                       let literals = agree_from_none by_literal same_literal same_literal_exact a.literals b.literals (none_under _ _ no_literal.0) in
-                      let it = some_under (λ (p : SchemaMeta × SchemaMeta). Schema p.0 p.1) (first_rivals by_schema same_schema a.schemas b.schemas) c no_literal.1 in
+                      let it = some_under (λ (p : SchemaMeta × SchemaMeta). Schema p.0 p.1) (first_differing_pair by_schema same_schema a.schemas b.schemas) c no_literal.1 in
                       subst (IsFirstClash a b) it.2 (heads, fields, literals, differ_from_some by_schema same_schema same_schema_exact by_schema_total a.schemas b.schemas order.schemas it.0 it.1)
                 ]
           ]
@@ -103,7 +105,7 @@ first_clash a b order c found = elim (some_either _ _ c found) [
   ]
 ]
 
--- what agrees has no first clash
+-- descriptions that agree have no first clash
 agree_no_first : (a b : TypeMeta) (c : Clash) → AgreeOnAll a b → IsFirstClash a b c → ⊥
 agree_no_first a b (Name m n) agree first = first.2 (first.0 ∙ agree.heads.name ∙ sym first.1)
 agree_no_first a b (Affinity m n) agree first = first.3 (agree.heads.affinity m n first.1 first.2)
@@ -119,7 +121,7 @@ no_clash_where_agree a b order agree = none (clash_of a b) refl
     none None e = e
     none (Some c) e = absurd (agree_no_first a b c agree (first_clash a b order c e))
 
--- ---- affinity keys below and above
+-- ---- affinity keys of a lower and of an upper description
 key_of_first : (p q : Option (List ℕ)) → IfSome p (λ k. option_or p q ≡ Some k)
 key_of_first None q = tt
 key_of_first (Some k) q = refl
@@ -146,12 +148,12 @@ key_through : (p q r : Option (List ℕ)) → IfSome p (λ k. q ≡ Some k) → 
 key_through None q r there on = tt
 key_through (Some k) q r there on = key_above q r k on there
 
--- ---- below is an order
+-- ---- IsBelow is a partial order
 key_itself : (p : Option (List ℕ)) → IfSome p (λ k. p ≡ Some k)
 key_itself None = tt
 key_itself (Some k) = refl
 
-pub below_refl : (a : TypeMeta) → Below a a
+pub below_refl : (a : TypeMeta) → IsBelow a a
 below_refl a = record {
   type_id = refl;
   name = refl;
@@ -162,7 +164,7 @@ below_refl a = record {
   schemas = λ x is_in. is_in;
 }
 
-pub below_trans : (a b c : TypeMeta) → Below a b → Below b c → Below a c
+pub below_trans : (a b c : TypeMeta) → IsBelow a b → IsBelow b c → IsBelow a c
 below_trans a b c first second = record {
   type_id = first.type_id ∙ second.type_id;
   name = first.name ∙ second.name;
@@ -173,7 +175,7 @@ below_trans a b c first second = record {
   schemas = λ x is_in. second.schemas x (first.schemas x is_in);
 }
 
-pub same_from_below : (a b : TypeMeta) → IsInOrder a → IsInOrder b → Below a b → Below b a → a ≡ b
+pub same_from_below : (a b : TypeMeta) → IsInOrder a → IsInOrder b → IsBelow a b → IsBelow b a → a ≡ b
 same_from_below a b first second there back =
     let keys = same_keys a.affinity b.affinity there.affinity back.affinity in
     let fields = same_from_within by_field by_field_total a.fields b.fields first.fields second.fields there.fields back.fields in
@@ -185,12 +187,12 @@ same_from_below a b first second there back =
 pub joined_in_order : (a b : TypeMeta) → IsInOrder a → IsInOrder b → AgreeOnAll a b → IsInOrder (joined a b)
 unfolding joined
 joined_in_order a b first second agree = record {
-  fields = sorted_with_parts by_field by_field_total a.fields b.fields first.fields;
-  literals = sorted_with_parts by_literal by_literal_total a.literals b.literals first.literals;
-  schemas = sorted_with_parts by_schema by_schema_total a.schemas b.schemas first.schemas;
-  plain = λ no_enum.
-      ap (λ xs. with_parts by_literal xs b.literals) (first.plain no_enum)
-      ∙ ap (with_parts by_literal []) (second.plain (sym agree.heads.is_enum ∙ no_enum));
+  fields = sorted_with_members by_field by_field_total a.fields b.fields first.fields;
+  literals = sorted_with_members by_literal by_literal_total a.literals b.literals first.literals;
+  schemas = sorted_with_members by_schema by_schema_total a.schemas b.schemas first.schemas;
+  no_literals = λ no_enum.
+      ap (λ xs. with_members by_literal xs b.literals) (first.no_literals no_enum)
+      ∙ ap (with_members by_literal []) (second.no_literals (sym agree.heads.is_enum ∙ no_enum));
 }
 
 pub joined_is_least : (a b : TypeMeta) → a.type_id ≡ b.type_id → IsInOrder b → AgreeOnAll a b → IsLeastAbove a b (joined a b)
@@ -225,8 +227,8 @@ joined_is_least a b one_type second agree = record {
   };
 }
 
--- two below one description agree
-pub agree_below : (a b u : TypeMeta) → IsInOrder u → Below a u → Below b u → AgreeOnAll a b
+-- two descriptions below a third agree
+pub agree_below : (a b u : TypeMeta) → IsInOrder u → IsBelow a u → IsBelow b u → AgreeOnAll a b
 agree_below a b u order first second = record {
   heads = record {
     name = first.name ∙ sym second.name;
@@ -238,10 +240,10 @@ agree_below a b u order first second = record {
   schemas = agree_within by_schema by_schema_total a.schemas b.schemas u.schemas order.schemas first.schemas second.schemas;
 }
 
-pub no_clash_below : (a b u : TypeMeta) → IsInOrder a → IsInOrder u → Below a u → Below b u → clash_of a b ≡ None
+pub no_clash_below : (a b u : TypeMeta) → IsInOrder a → IsInOrder u → IsBelow a u → IsBelow b u → clash_of a b ≡ None
 no_clash_below a b u first order below_a below_b = no_clash_where_agree a b first (agree_below a b u order below_a below_b)
 
--- what is known of two that don't clash
+-- what holds of the join of two descriptions that don't clash
 pub record Joins (a b : TypeMeta) : Type 0 where
   pub in_order : IsInOrder (joined a b)
   pub is_least : IsLeastAbove a b (joined a b)
@@ -251,15 +253,15 @@ joins a b one_type first second none =
     let agree = agree_unless_clash a b none in
     record { in_order = joined_in_order a b first second agree; is_least = joined_is_least a b one_type second agree }
 
--- ---- what an outcome of the join shows
-pub record Shows (a b : TypeMeta) (r : Result TypeMeta JoinFault) : Type 0 where
+-- ---- what the outcome of a join says of the two descriptions
+pub record JoinFacts (a b : TypeMeta) (r : Result TypeMeta JoinFault) : Type 0 where
   pub least : IfOk r (IsLeastAbove a b)
   pub in_order : IfOk r IsInOrder
   pub agreed : OnOk r (AgreeOnAll a b)
   pub clash : IfErr r (λ e. IfClash e (IsFirstClash a b))
 
-pub shows : (a b : TypeMeta) → a.type_id ≡ b.type_id → IsInOrder a → IsInOrder b → (r : Result TypeMeta JoinFault) → IsOutcome r (clash_of a b) (joined a b) → Shows a b r
-shows a b one_type first second (Ok m) outcome =
+pub join_facts : (a b : TypeMeta) → a.type_id ≡ b.type_id → IsInOrder a → IsInOrder b → (r : Result TypeMeta JoinFault) → IsOutcome r (clash_of a b) (joined a b) → JoinFacts a b r
+join_facts a b one_type first second (Ok m) outcome =
     let it : Joins a b = joins a b one_type first second outcome.0 in
     record {
       least = subst (IsLeastAbove a b) (sym outcome.1) it.is_least;
@@ -267,5 +269,5 @@ shows a b one_type first second (Ok m) outcome =
       agreed = agree_unless_clash a b outcome.0;
       clash = tt;
     }
-shows a b one_type first second (Err (fault.Clash c)) outcome = record { least = tt; in_order = tt; agreed = tt; clash = first_clash a b first c outcome }
-shows a b one_type first second (Err fault.NoMemory) outcome = record { least = tt; in_order = tt; agreed = tt; clash = tt }
+join_facts a b one_type first second (Err (fault.Clash c)) outcome = record { least = tt; in_order = tt; agreed = tt; clash = first_clash a b first c outcome }
+join_facts a b one_type first second (Err fault.NoMemory) outcome = record { least = tt; in_order = tt; agreed = tt; clash = tt }

@@ -1,10 +1,11 @@
--- The laws of joins follow from the join being the least above both.
+-- The laws of the join follow from its being the least upper bound.
 use Rattle.std.proofs.Common.{◌≡◌, ◌⊎◌, None, sym, ◌∙◌, inl, inr}
 use Rattle.ig_types.specs.declared.meta.TypeMeta.{TypeMeta}
-use Rattle.ig_types.specs.Bound.{IsInOrder, Below}
+use Rattle.ig_types.specs.IsInOrder.{IsInOrder}
+use Rattle.ig_types.specs.IsBelow.{IsBelow}
 use Rattle.ig_types.specs.Join.{clash_of, joined}
-use Rattle.ig_types.specs.Laws.{JoinCommutes, JoinsFromLeft, JoinsFromRight, JoinAssociates}
-use Rattle.ig_types.proofs.Joins.{Joins, joins, no_clash_below, below_trans, same_from_below}
+use Rattle.ig_types.specs.JoinLaws.{JoinCommutes, JoinsFromLeft, JoinsFromRight, JoinAssociates}
+use Rattle.ig_types.proofs.JoinLemmas.{Joins, joins, no_clash_below, below_trans, same_from_below}
 
 pub join_commutes : JoinCommutes
 join_commutes a b first second one_type none =
@@ -18,12 +19,12 @@ join_commutes a b first second one_type none =
     )
 
 module _ (a b c : TypeMeta) (a_order : IsInOrder a) (b_order : IsInOrder b) (c_order : IsInOrder c) (ab : a.type_id ≡ b.type_id) (bc : b.type_id ≡ c.type_id) where
-  -- what is above all three
+  -- an upper bound of all three
   record Above (u : TypeMeta) : Type 0 where
     in_order : IsInOrder u
-    of_a : Below a u
-    of_b : Below b u
-    of_c : Below c u
+    of_a : IsBelow a u
+    of_b : IsBelow b u
+    of_c : IsBelow c u
 
   from_left : JoinsFromLeft a b c → Above (joined (joined a b) c)
   from_left left =
@@ -47,20 +48,20 @@ module _ (a b c : TypeMeta) (a_order : IsInOrder a) (b_order : IsInOrder b) (c_o
         of_c = below_trans _ _ _ one.is_least.second two.is_least.second;
       }
 
-  left_below : (u : TypeMeta) → Above u → JoinsFromLeft a b c × Below (joined (joined a b) c) u
+  left_below : (u : TypeMeta) → Above u → JoinsFromLeft a b c × IsBelow (joined (joined a b) c) u
   left_below u above =
       let none : clash_of a b ≡ None = no_clash_below a b u a_order above.in_order above.of_a above.of_b in
       let one : Joins a b = joins a b ab a_order b_order none in
-      let middle : Below (joined a b) u = one.is_least.least u above.of_a above.of_b in
+      let middle : IsBelow (joined a b) u = one.is_least.least u above.of_a above.of_b in
       let rest : clash_of (joined a b) c ≡ None = no_clash_below (joined a b) c u one.in_order above.in_order middle above.of_c in
       let two : Joins (joined a b) c = joins (joined a b) c (sym one.is_least.first.type_id ∙ ab ∙ bc) one.in_order c_order rest in
       (record { first = none; rest = rest }, two.is_least.least u middle above.of_c)
 
-  right_below : (u : TypeMeta) → Above u → JoinsFromRight a b c × Below (joined a (joined b c)) u
+  right_below : (u : TypeMeta) → Above u → JoinsFromRight a b c × IsBelow (joined a (joined b c)) u
   right_below u above =
       let none : clash_of b c ≡ None = no_clash_below b c u b_order above.in_order above.of_b above.of_c in
       let one : Joins b c = joins b c bc b_order c_order none in
-      let middle : Below (joined b c) u = one.is_least.least u above.of_b above.of_c in
+      let middle : IsBelow (joined b c) u = one.is_least.least u above.of_b above.of_c in
       let rest : clash_of a (joined b c) ≡ None = no_clash_below a (joined b c) u a_order above.in_order above.of_a middle in
       let two : Joins a (joined b c) = joins a (joined b c) (ab ∙ one.is_least.first.type_id) a_order one.in_order rest in
       (record { last = none; rest = rest }, two.is_least.least u above.of_a middle)

@@ -1,4 +1,4 @@
--- The first rivals of two lists are where they differ first, and without rivals they agree.
+-- The first differing pair of two lists is where they differ first, and without one they agree.
 use Rattle.std.proofs.Common.{◌≡◌, ◌≢◌, ◌⊎◌, Bool, true, false, Decides, cond, not, ◌&&◌, List, [], ◌∷◌, Option, Some, None, Contains, find, option_map, refl, sym, ap, subst, ◌∙◌, inl, inr}
 use Rattle.std.specs.List.Sorted.{IsStrictlySortedBy}
 use Rattle.std.specs.Option.{option_or}
@@ -7,8 +7,8 @@ use Rattle.std.specs.Cmp.{IsTotalOrder}
 use Rattle.std.specs.declared.cmp.Ordering.{Ordering}
 use Rattle.std.specs.declared.cmp.Ordering.TheVariants.{Less, Equal, Greater}
 use Rattle.std.proofs.lemmas.Cmp.{tied_itself}
-use Rattle.ig_types.specs.Parts.{Agree, Differ, DifferFirst, rival, first_rivals}
-use Rattle.ig_types.proofs.Ascending.{contains_nil, contains_first, contains_later, contains_cases, each_at, sorted_first, sorted_later, more_from_less}
+use Rattle.ig_types.specs.Members.{Agree, Differ, DifferFirst, differing_member, first_differing_pair}
+use Rattle.ig_types.proofs.AscendingLemmas.{contains_nil, contains_first, contains_later, contains_cases, each_at, sorted_first, sorted_later, more_from_less}
 
 -- ---- options
 pub none_both : {A : Type 0} (p q : Option A) → option_or p q ≡ None → (p ≡ None) × (q ≡ None)
@@ -45,9 +45,9 @@ find_some p (z ∷ zs) y found =
     ] refl found
 
 module _ {X : Type 0} (rank : X → X → Ordering) (same : X → X → Bool) (exact : (x y : X) → Decides (same x y) (x ≡ y)) where
-  -- what isn't a rival and has the same key is the same
-  no_rival : (x : X) (ys : List X) → rival rank same x ys ≡ None → (y : X) → Contains ys y → rank x y ≡ Equal → x ≡ y
-  no_rival x ys none y is_in tied =
+  -- without a differing member, members with the same key are equal
+  none_differs : (x : X) (ys : List X) → differing_member rank same x ys ≡ None → (y : X) → Contains ys y → rank x y ≡ Equal → x ≡ y
+  none_differs x ys none y is_in tied =
       let no : (is_eq (rank x y) && not (same x y)) ≡ false = find_none (λ z. is_eq (rank x z) && not (same x z)) ys y none is_in in
       (exact x y).0 (is_same (same x y) (rw tied at no))
     where
@@ -55,17 +55,17 @@ module _ {X : Type 0} (rank : X → X → Ordering) (same : X → X → Bool) (e
       is_same true e = refl
       is_same false e = absurd (cc)
 
-  pub agree_from_none : (xs ys : List X) → first_rivals rank same xs ys ≡ None → Agree rank xs ys
+  pub agree_from_none : (xs ys : List X) → first_differing_pair rank same xs ys ≡ None → Agree rank xs ys
   agree_from_none [] ys none x y x_in y_in tied = absurd (contains_nil x x_in)
   agree_from_none (x ∷ xs) ys none u y u_in y_in tied =
-      let both = none_both (option_map (λ z. (x, z)) (rival rank same x ys)) (first_rivals rank same xs ys) none in
+      let both = none_both (option_map (λ z. (x, z)) (differing_member rank same x ys)) (first_differing_pair rank same xs ys) none in
       elim (contains_cases x xs u u_in) [
-        | inl is ↦ is ∙ no_rival x ys (none_under (λ z. (x, z)) (rival rank same x ys) both.0) y y_in (sym (ap (λ z. rank z y) is) ∙ tied)
+        | inl is ↦ is ∙ none_differs x ys (none_under (λ z. (x, z)) (differing_member rank same x ys) both.0) y y_in (sym (ap (λ z. rank z y) is) ∙ tied)
         | inr later ↦ agree_from_none xs ys both.1 u y later y_in tied
       ]
 
-  rival_differs : (x y : X) (ys : List X) → rival rank same x ys ≡ Some y → Contains ys y × (rank x y ≡ Equal) × (x ≢ y)
-  rival_differs x y ys found =
+  differing_differs : (x y : X) (ys : List X) → differing_member rank same x ys ≡ Some y → Contains ys y × (rank x y ≡ Equal) × (x ≢ y)
+  differing_differs x y ys found =
       let it = find_some (λ z. is_eq (rank x z) && not (same x z)) ys y found in
       (it.0, tied (rank x y) (same x y) it.1, λ e. apart (rank x y) (same x y) it.1 ((exact x y).1 e))
     where
@@ -81,7 +81,7 @@ module _ {X : Type 0} (rank : X → X → Ordering) (same : X → X → Bool) (e
       apart Greater b e is = cc
 
   module _ (o : IsTotalOrder rank) where
-    -- two that differ behind the first part differ later
+    -- no two members differ under a lower key than that of the first member
     first_stays_first : (x y : X) (xs ys : List X) → IsStrictlySortedBy rank (x ∷ xs) → (v w : X) → Differ rank (x ∷ xs) ys v w → rank v x ≢ Less
     first_stays_first x y xs ys sorted v w differ less = elim (contains_cases x xs v differ.of_first) [
       | inl is ↦ let tied : rank x x ≡ Equal = tied_itself o x in cc
@@ -90,31 +90,31 @@ module _ {X : Type 0} (rank : X → X → Ordering) (same : X → X → Bool) (e
           cc
     ]
 
-    pub differ_from_some : (xs ys : List X) → IsStrictlySortedBy rank xs → (p : X × X) → first_rivals rank same xs ys ≡ Some p → DifferFirst rank xs ys p.0 p.1
+    pub differ_from_some : (xs ys : List X) → IsStrictlySortedBy rank xs → (p : X × X) → first_differing_pair rank same xs ys ≡ Some p → DifferFirst rank xs ys p.0 p.1
     differ_from_some [] ys sorted p found = absurd (cc)
     differ_from_some (x ∷ xs) ys sorted p found =
-        elim (rival rank same x ys) as (λ r. rival rank same x ys ≡ r → option_or (option_map (λ z. (x, z)) r) (first_rivals rank same xs ys) ≡ Some p → DifferFirst rank (x ∷ xs) ys p.0 p.1) [
+        elim (differing_member rank same x ys) as (λ r. differing_member rank same x ys ≡ r → option_or (option_map (λ z. (x, z)) r) (first_differing_pair rank same xs ys) ≡ Some p → DifferFirst rank (x ∷ xs) ys p.0 p.1) [
           | None ↦ λ is f. later is (differ_from_some xs ys (sorted_later rank x xs sorted) p f)
           | Some y ↦ λ is f. let here : ◌≡◌ {A = X × X} (x, y) p = cc in subst (λ (q : X × X). DifferFirst rank (x ∷ xs) ys q.0 q.1) here (now y is)
         ] refl found
       where
-        now : (y : X) → rival rank same x ys ≡ Some y → DifferFirst rank (x ∷ xs) ys x y
+        now : (y : X) → differing_member rank same x ys ≡ Some y → DifferFirst rank (x ∷ xs) ys x y
         now y is =
-            let it = rival_differs x y ys is in
+            let it = differing_differs x y ys is in
             record {
               differ = record { of_first = contains_first x xs; of_second = it.0; one_key = it.1; apart = it.2 };
               none_before = first_stays_first x y xs ys sorted;
             }
 
-        later : rival rank same x ys ≡ None → DifferFirst rank xs ys p.0 p.1 → DifferFirst rank (x ∷ xs) ys p.0 p.1
+        later : differing_member rank same x ys ≡ None → DifferFirst rank xs ys p.0 p.1 → DifferFirst rank (x ∷ xs) ys p.0 p.1
         later none first = record {
           differ = record { of_first = contains_later x xs p.0 first.differ.of_first; of_second = first.differ.of_second; one_key = first.differ.one_key; apart = first.differ.apart };
           none_before = λ v w differ. elim (contains_cases x xs v differ.of_first) [
-            | inl is ↦ λ less. differ.apart (is ∙ no_rival x ys none w differ.of_second (sym (ap (λ z. rank z w) is) ∙ differ.one_key))
+            | inl is ↦ λ less. differ.apart (is ∙ none_differs x ys none w differ.of_second (sym (ap (λ z. rank z w) is) ∙ differ.one_key))
             | inr of_xs ↦ first.none_before v w (record { of_first = of_xs; of_second = differ.of_second; one_key = differ.one_key; apart = differ.apart })
           ];
         }
 
--- lists that agree differ nowhere
+-- lists that agree have no first difference
 pub agree_apart : {X : Type 0} (rank : X → X → Ordering) (xs ys : List X) (x y : X) → Agree rank xs ys → DifferFirst rank xs ys x y → ⊥
 agree_apart rank xs ys x y agree first = first.differ.apart (agree x y first.differ.of_first first.differ.of_second first.differ.one_key)

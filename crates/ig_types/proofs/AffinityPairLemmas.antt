@@ -1,4 +1,4 @@
--- The pairs of a registry are those of its types that have one, by ascending type identifier.
+-- The list of affinity pairs holds exactly the affinity pairs of the registry, by ascending type identifier.
 use Rattle.std.proofs.Common.{◌≡◌, ◌↔◌, ℕ, ℤ, true, false, cond, List, [], ◌∷◌, ◌++◌, Option, Some, None, Contains, filter_map, option_map, option_and_then, map, inl, inr, refl, sym, ap, subst, ◌∙◌, append_assoc}
 use Rattle.std.specs.List.{AllByRecursion, cons_option}
 use Rattle.std.specs.List.Sorted.{IsStrictlySortedBy}
@@ -12,16 +12,18 @@ use Rattle.std.specs.declared.cmp.Ordering.TheVariants.{Less, Equal}
 use Rattle.std.proofs.lemmas.Cmp.{tied_itself}
 use Rattle.ig_types.specs.declared.meta.FieldMeta.{FieldMeta}
 use Rattle.ig_types.specs.declared.meta.TypeMeta.{TypeMeta}
-use Rattle.ig_types.specs.Bound.{IsInOrder, by_field}
+use Rattle.ig_types.specs.IsInOrder.{IsInOrder, by_field}
 use Rattle.ig_types.specs.Join.{same_name}
-use Rattle.ig_types.specs.Keys.{same_name_exact, by_field_total}
-use Rattle.ig_types.specs.Registered.{Registered, IsKept, affinity_pair, field_named, pairs_of, by_type, IsAffinityPair}
-use Rattle.ig_types.proofs.Ascending.{Before, contains_nil, contains_first, contains_later, contains_cases, sorted_first, sorted_later, sorted_nil, sorted_cons}
-use Rattle.ig_types.proofs.Maps.{get_entries, value_found, found_value, found_later, entries_kept}
-use Rattle.ig_types.proofs.Members.{one_of_key}
-use Rattle.ig_types.proofs.Rivals.{find_none, find_some}
+use Rattle.ig_types.specs.MemberLaws.{by_field_total}
+use Rattle.ig_types.proofs.NameLemmas.{same_name_exact}
+use Rattle.ig_types.specs.Registered.{Registered, IsWellFormed}
+use Rattle.ig_types.specs.AffinityPair.{affinity_pair, field_named, affinity_pairs_of, by_type, IsAffinityPair}
+use Rattle.ig_types.proofs.AscendingLemmas.{Before, contains_nil, contains_first, contains_later, contains_cases, sorted_first, sorted_later, sorted_nil, sorted_cons}
+use Rattle.ig_types.proofs.MapLemmas.{get_entries, value_found, found_value, found_later, entries_from_sorted}
+use Rattle.ig_types.proofs.MemberLemmas.{one_of_key}
+use Rattle.ig_types.proofs.DifferenceLemmas.{find_none, find_some}
 
--- ---- one step of the loop
+-- ---- one step of the loop over the types
 module _ {X Y : Type 0} (f : X → Option Y) (out : List Y) (whole : List Y) (s t : List X) (x : X) (is_s : s ≡ x ∷ t) (so_far : out ++ filter_map f s ≡ whole) where
   pub pairs_more : (new : List Y) (y : Y) → Some y ≡ f x → new ≡ out ++ y ∷ [] → new ++ filter_map f t ≡ whole
   pairs_more new y is is_new =
@@ -33,9 +35,9 @@ module _ {X Y : Type 0} (f : X → Option Y) (out : List Y) (whole : List Y) (s 
 
 -- ---- what a filtered list contains
 module _ {X Y : Type 0} (f : X → Option Y) where
-  behind_all : (o : Option Y) (ys : List Y) (y : Y) → Contains ys y → Contains (cons_option o ys) y
-  behind_all None ys y is_in = is_in
-  behind_all (Some w) ys y is_in = contains_later w ys y is_in
+  in_cons_option : (o : Option Y) (ys : List Y) (y : Y) → Contains ys y → Contains (cons_option o ys) y
+  in_cons_option None ys y is_in = is_in
+  in_cons_option (Some w) ys y is_in = contains_later w ys y is_in
 
   filtered : (xs : List X) (x : X) (y : Y) → Contains xs x → f x ≡ Some y → Contains (filter_map f xs) y
   filtered [] x y is_in is = absurd (contains_nil x is_in)
@@ -43,7 +45,7 @@ module _ {X Y : Type 0} (f : X → Option Y) where
     | inl e ↦
         let at_z : Some y ≡ f z = sym (sym (ap f e) ∙ is) in
         subst (λ o. Contains (cons_option o (filter_map f zs)) y) at_z (contains_first y (filter_map f zs))
-    | inr later ↦ behind_all (f z) (filter_map f zs) y (filtered zs x y later is)
+    | inr later ↦ in_cons_option (f z) (filter_map f zs) y (filtered zs x y later is)
   ]
 
   unfiltered : (xs : List X) (y : Y) → Contains (filter_map f xs) y → (x : X) × Contains xs x × (f x ≡ Some y)
@@ -55,7 +57,7 @@ module _ {X Y : Type 0} (f : X → Option Y) where
         | None ↦ λ is h. later h
         | Some w ↦ λ is h. elim (contains_cases w (filter_map f zs) y h) [
           | inl e ↦ (z, contains_first z zs, is ∙ ap Some (sym e))
-          | inr behind ↦ later behind
+          | inr in_rest ↦ later in_rest
         ]
       ] refl is_in
 
@@ -68,7 +70,7 @@ module _ {X Y : Type 0} (f : X → Option Y) where
         | Some y ↦ λ is. (there x y all.0 is, rest)
       ] refl
 
--- ---- the pair of a type
+-- ---- the affinity pair of a type
 named_by : (t : TypeMeta) (id field : ℤ) → affinity_pair t ≡ Some (id, field) → (t.type_id ≡ id) × ((f : FieldMeta) × Contains t.fields f × (t.affinity ≡ Some f.name) × (f.id ≡ field))
 named_by t id field is = at_key t.affinity refl is
   where
@@ -103,16 +105,16 @@ names t f order f_in is_key =
         is ∙ ap Some (one_of_key by_field by_field_total t.fields order.fields g f it.0 f_in tied)
 
 -- ---- the types of a registry
-module _ (r : Registered) (es : List (ℤ × TypeMeta)) (sorted : IsStrictlySortedBy int_cmp (keys_of es)) (is : from_entries {R = int_cmp} es ≡ r.types) (kept : IsKept r) where
-  got_at : (id : ℤ) → get r.types id ≡ lookup (is_at (int_cmp id)) es
-  got_at id = sym (ap (λ m. get m id) is) ∙ get_entries int_cmp int_cmp_total es id
+module _ (r : Registered) (es : List (ℤ × TypeMeta)) (sorted : IsStrictlySortedBy int_cmp (keys_of es)) (is : from_entries {R = int_cmp} es ≡ r.types) (well_formed : IsWellFormed r) where
+  get_at : (id : ℤ) → get r.types id ≡ lookup (is_at (int_cmp id)) es
+  get_at id = sym (ap (λ m. get m id) is) ∙ get_entries int_cmp int_cmp_total es id
 
-  -- what is found among the entries is in order, under its identifier
-  kept_at : (id : ℤ) (t : TypeMeta) → lookup (is_at (int_cmp id)) es ≡ Some t → (t.type_id ≡ id) × IsInOrder t
-  kept_at id t found = kept id t (got_at id ∙ found)
+  -- a type that a look-up among the entries finds is in order and has the identifier
+  type_at : (id : ℤ) (t : TypeMeta) → lookup (is_at (int_cmp id)) es ≡ Some t → (t.type_id ≡ id) × IsInOrder t
+  type_at id t found = well_formed id t (get_at id ∙ found)
 
-  pub pairs_are : filter_map affinity_pair (values_of es) ≡ pairs_of r
-  pairs_are = ap (λ xs. filter_map affinity_pair (map (λ (e : ℤ × TypeMeta). e.1) xs)) (sym (entries_kept int_cmp int_cmp_total es sorted) ∙ ap entries is)
+  pub pairs_are : filter_map affinity_pair (values_of es) ≡ affinity_pairs_of r
+  pairs_are = ap (λ xs. filter_map affinity_pair (map (λ (e : ℤ × TypeMeta). e.1) xs)) (sym (entries_from_sorted int_cmp int_cmp_total es sorted) ∙ ap entries is)
 
   pub pairs_exactly : (id field : ℤ) → Contains (filter_map affinity_pair (values_of es)) (id, field) ↔ IsAffinityPair r id field
   pairs_exactly id field = (there, back)
@@ -122,10 +124,10 @@ module _ (r : Registered) (es : List (ℤ × TypeMeta)) (sorted : IsStrictlySort
           let it = unfiltered affinity_pair (values_of es) (id, field) is_in in
           let by = named_by it.0 id field it.2 in
           let at = found_value int_cmp int_cmp_total it.0 es sorted it.1 in
-          let same : at.0 ≡ id = sym (kept_at at.0 it.0 at.1).0 ∙ by.0 in
+          let same : at.0 ≡ id = sym (type_at at.0 it.0 at.1).0 ∙ by.0 in
           record {
             type = it.0;
-            found = got_at id ∙ ap (λ k. lookup (is_at (int_cmp k)) es) (sym same) ∙ at.1;
+            found = get_at id ∙ ap (λ k. lookup (is_at (int_cmp k)) es) (sym same) ∙ at.1;
             field = by.1.0;
             of_type = by.1.1;
             named = by.1.2;
@@ -134,12 +136,12 @@ module _ (r : Registered) (es : List (ℤ × TypeMeta)) (sorted : IsStrictlySort
 
       back : IsAffinityPair r id field → Contains (filter_map affinity_pair (values_of es)) (id, field)
       back pair =
-          let at : lookup (is_at (int_cmp id)) es ≡ Some pair.type = sym (got_at id) ∙ pair.found in
-          let its = kept_at id pair.type at in
+          let at : lookup (is_at (int_cmp id)) es ≡ Some pair.type = sym (get_at id) ∙ pair.found in
+          let its = type_at id pair.type at in
           filtered affinity_pair (values_of es) pair.type (id, field) (value_found int_cmp int_cmp_total id pair.type es at)
           (names pair.type pair.field its.1 pair.of_type pair.named ∙ ap Some (λ i. (its.0 i, pair.its_id i)))
 
--- what holds of what is found holds of each entry
+-- what holds of every look-up holds of each entry
 each_entry : (P : ℤ → TypeMeta → Type 0) (es : List (ℤ × TypeMeta)) → IsStrictlySortedBy int_cmp (keys_of es) → ((id : ℤ) (t : TypeMeta) → lookup (is_at (int_cmp id)) es ≡ Some t → P id t) → AllByRecursion (λ (e : ℤ × TypeMeta). P e.0 e.1) es
 each_entry P [] sorted holds = tt
 each_entry P (e ∷ es) sorted holds = (
@@ -151,10 +153,10 @@ each_value : (P : TypeMeta → Type 0) (es : List (ℤ × TypeMeta)) → AllByRe
 each_value P [] all = tt
 each_value P (e ∷ es) all = (all.0, each_value P es all.1)
 
--- types whose identifiers are their keys have pairs that ascend
-behind : (id : ℤ) (xs : List (ℤ × TypeMeta)) → Before int_cmp id (keys_of xs) → AllByRecursion (λ (x : ℤ × TypeMeta). x.1.type_id ≡ x.0) xs → AllByRecursion (λ (t : TypeMeta). int_cmp id t.type_id ≡ Less) (values_of xs)
-behind id [] less its = tt
-behind id (x ∷ xs) less its = (ap (int_cmp id) its.0 ∙ less.0, behind id xs less.1 its.1)
+-- the affinity pairs ascend where each type has the identifier that is its key
+less_than_types : (id : ℤ) (xs : List (ℤ × TypeMeta)) → Before int_cmp id (keys_of xs) → AllByRecursion (λ (x : ℤ × TypeMeta). x.1.type_id ≡ x.0) xs → AllByRecursion (λ (t : TypeMeta). int_cmp id t.type_id ≡ Less) (values_of xs)
+less_than_types id [] less its = tt
+less_than_types id (x ∷ xs) less its = (ap (int_cmp id) its.0 ∙ less.0, less_than_types id xs less.1 its.1)
 
 pub pairs_ascend : (es : List (ℤ × TypeMeta)) → IsStrictlySortedBy int_cmp (keys_of es) → AllByRecursion (λ (e : ℤ × TypeMeta). e.1.type_id ≡ e.0) es → IsStrictlySortedBy by_type (filter_map affinity_pair (values_of es))
 pairs_ascend [] sorted ids = sorted_nil by_type
@@ -167,23 +169,23 @@ pairs_ascend (e ∷ es) sorted ids =
           sorted_cons by_type p (filter_map affinity_pair (values_of es))
           (each_filtered affinity_pair (λ (t : TypeMeta). int_cmp e.0 t.type_id ≡ Less) (λ q. by_type p q ≡ Less)
           (λ t q less has. sym (ap (λ k. int_cmp k q.0) first) ∙ sym (ap (int_cmp e.0) (named_by t q.0 q.1 has).0) ∙ less)
-          (values_of es) (behind e.0 es (sorted_first int_cmp e.0 (keys_of es) sorted) ids.1))
+          (values_of es) (less_than_types e.0 es (sorted_first int_cmp e.0 (keys_of es) sorted) ids.1))
           rest
     ] refl
 
--- ---- all of it, of a registry whose types are those entries
-pub record ShowsPairs (r : Registered) (ps : List (ℤ × ℤ)) : Type 0 where
+-- ---- both facts, for a registry whose types are those entries
+pub record PairFacts (r : Registered) (ps : List (ℤ × ℤ)) : Type 0 where
   pub ascending : IsStrictlySortedBy by_type ps
   pub exactly : (id field : ℤ) → Contains ps (id, field) ↔ IsAffinityPair r id field
 
-module _ (r : Registered) (es : List (ℤ × TypeMeta)) (sorted : IsStrictlySortedBy int_cmp (keys_of es)) (is : from_entries {R = int_cmp} es ≡ r.types) (kept : IsKept r) where
+module _ (r : Registered) (es : List (ℤ × TypeMeta)) (sorted : IsStrictlySortedBy int_cmp (keys_of es)) (is : from_entries {R = int_cmp} es ≡ r.types) (well_formed : IsWellFormed r) where
   pub types_in_order : AllByRecursion IsInOrder (values_of es)
-  types_in_order = each_value IsInOrder es (each_entry (λ id t. IsInOrder t) es sorted (λ id t found. (kept_at r es sorted is kept id t found).1))
+  types_in_order = each_value IsInOrder es (each_entry (λ id t. IsInOrder t) es sorted (λ id t found. (type_at r es sorted is well_formed id t found).1))
 
-  pub shows_pairs : (ps : List (ℤ × ℤ)) → ps ≡ pairs_of r → ShowsPairs r ps
-  shows_pairs ps are =
-      let same : filter_map affinity_pair (values_of es) ≡ ps = pairs_are r es sorted is kept ∙ sym are in
+  pub pair_facts : (ps : List (ℤ × ℤ)) → ps ≡ affinity_pairs_of r → PairFacts r ps
+  pair_facts ps are =
+      let same : filter_map affinity_pair (values_of es) ≡ ps = pairs_are r es sorted is well_formed ∙ sym are in
       record {
-        ascending = subst (IsStrictlySortedBy by_type) same (pairs_ascend es sorted (each_entry (λ id t. t.type_id ≡ id) es sorted (λ id t found. (kept_at r es sorted is kept id t found).0)));
-        exactly = λ id field. subst (λ qs. Contains qs (id, field) ↔ IsAffinityPair r id field) same (pairs_exactly r es sorted is kept id field);
+        ascending = subst (IsStrictlySortedBy by_type) same (pairs_ascend es sorted (each_entry (λ id t. t.type_id ≡ id) es sorted (λ id t found. (type_at r es sorted is well_formed id t found).0)));
+        exactly = λ id field. subst (λ qs. Contains qs (id, field) ↔ IsAffinityPair r id field) same (pairs_exactly r es sorted is well_formed id field);
       }

@@ -1,4 +1,4 @@
--- What a put leaves in a registry.
+-- What a put and a new name leave in a registry.
 use Rattle.std.proofs.Common.{◌≡◌, ◌≢◌, ℤ, true, false, cond, List, [], ◌∷◌, ◌++◌, Option, Some, None, MatchOption, option_and_then, IfSome, Bor, option_copied, ℕ, Contains, refl, sym, ap, subst, ◌∙◌, inl, inr}
 use Rattle.std.specs.Ordering.{nat_cmp, int_cmp, is_eq, eq_by_cmp}
 use Rattle.std.specs.Cmp.{IsTotalOrder, nat_cmp_total, int_cmp_total}
@@ -12,12 +12,13 @@ use Rattle.std.proofs.lemmas.Map.Lookups.{CmpEqualImpliesEq, exact_unsigned, exa
 use Rattle.std.proofs.lemmas.List.Elements.{Contains-append_left, Contains-push, Contains-push_cases}
 use Rattle.std.proofs.lemmas.Cmp.{tied_itself, on_total, then_total}
 use Rattle.ig_types.specs.declared.meta.TypeMeta.{TypeMeta}
-use Rattle.ig_types.specs.Bound.{IsInOrder, Below}
+use Rattle.ig_types.specs.IsInOrder.{IsInOrder}
+use Rattle.ig_types.specs.IsBelow.{IsBelow}
 use Rattle.ig_types.specs.Join.{clash_of, joined}
-use Rattle.ig_types.specs.Registered.{Registered, by_place, after_name, IsKept, put_clash, put_type, after_put, IsLeastOf, NoneOf, KeepsJoins}
-use Rattle.ig_types.proofs.Maps.{inserted}
-use Rattle.ig_types.proofs.Ascending.{contains_nil}
-use Rattle.ig_types.proofs.Joins.{Joins, joins, no_clash_below, same_from_below, below_refl, below_trans}
+use Rattle.ig_types.specs.Registered.{Registered, by_place, registry_after_name, IsWellFormed, put_clash, type_after_put, registry_after_put, IsJoinOf, HasNoneOf, HoldsJoinsOf}
+use Rattle.ig_types.proofs.MapLemmas.{inserted}
+use Rattle.ig_types.proofs.AscendingLemmas.{contains_nil}
+use Rattle.ig_types.proofs.JoinLemmas.{Joins, joins, no_clash_below, same_from_below, below_refl, below_trans}
 
 not_some : {A : Type 0} (x : A) → None ≡ Some x → ⊥
 not_some x e = cc
@@ -29,7 +30,7 @@ by_place_total = then_total (on_total (λ p. p.0) nat_cmp_total) (on_total (λ p
 pub by_place_exact : CmpEqualImpliesEq by_place
 by_place_exact = exact_pairs nat_cmp int_cmp exact_unsigned exact_signed
 
--- identifiers that tie are one
+-- identifiers that tie are equal
 tied_ids : (i j : ℤ) → eq_by_cmp int_cmp i j ≡ true → i ≡ j
 tied_ids i j is = exact_signed i j (tied (int_cmp i j) is)
   where
@@ -38,32 +39,32 @@ tied_ids i j is = exact_signed i j (tied (int_cmp i j) is)
     tied Equal e = refl
     tied Greater e = absurd (cc)
 
--- ---- nothing
-pub kept_nothing : (r : Registered) → r.types ≡ empty → IsKept r
-kept_nothing r none id t is = absurd (not_some t (sym (ap (λ m. get m id) none ∙ get-empty int_cmp id) ∙ is))
+-- ---- the empty registry
+pub well_formed_empty : (r : Registered) → r.types ≡ empty → IsWellFormed r
+well_formed_empty r none id t is = absurd (not_some t (sym (ap (λ m. get m id) none ∙ get-empty int_cmp id) ∙ is))
 
-pub keeps_nothing : (r : Registered) → r.types ≡ empty → KeepsJoins r []
-keeps_nothing r none id =
-    subst (λ o. MatchOption o (NoneOf id []) (λ t. IsLeastOf t id [])) (sym (ap (λ m. get m id) none ∙ get-empty int_cmp id)) (λ m is_in. absurd (contains_nil m is_in))
+pub joins_of_empty : (r : Registered) → r.types ≡ empty → HoldsJoinsOf r []
+joins_of_empty r none id =
+    subst (λ o. MatchOption o (HasNoneOf id []) (λ t. IsJoinOf t id [])) (sym (ap (λ m. get m id) none ∙ get-empty int_cmp id)) (λ m is_in. absurd (contains_nil m is_in))
 
 -- ---- a description that is put
--- what stands under its identifier
-abbrev pub IsStandingKept : Registered → TypeMeta → Type 0
-IsStandingKept r m = (t : TypeMeta) → get r.types m.type_id ≡ Some t → (t.type_id ≡ m.type_id) × IsInOrder t
+-- the description that is registered under the identifier of m is in order
+abbrev pub IsRegisteredInOrder : Registered → TypeMeta → Type 0
+IsRegisteredInOrder r m = (t : TypeMeta) → get r.types m.type_id ≡ Some t → (t.type_id ≡ m.type_id) × IsInOrder t
 
-module _ (r : Registered) (m : TypeMeta) (stood : IsStandingKept r m) (order : IsInOrder m) (none : put_clash r m ≡ None) where
-  -- what it makes with what stood there
-  record Stands (before : Option TypeMeta) (t : TypeMeta) : Type 0 where
+module _ (r : Registered) (m : TypeMeta) (registered : IsRegisteredInOrder r m) (order : IsInOrder m) (none : put_clash r m ≡ None) where
+  -- t is in order and the least upper bound of m and the description before, if there was one
+  record IsTypeAfterPut (before : Option TypeMeta) (t : TypeMeta) : Type 0 where
     in_order : IsInOrder t
     its_type : t.type_id ≡ m.type_id
-    above : Below m t
-    of_before : MatchOption before (t ≡ m) (λ s. Below s t)
-    least : (u : TypeMeta) → MatchOption before (Unit {0}) (λ s. Below s u) → Below m u → Below t u
+    above : IsBelow m t
+    of_before : MatchOption before (t ≡ m) (λ s. IsBelow s t)
+    least : (u : TypeMeta) → MatchOption before (Unit {0}) (λ s. IsBelow s u) → IsBelow m u → IsBelow t u
 
-  stands_at : (before : Option TypeMeta) → get r.types m.type_id ≡ before → option_and_then (λ t. clash_of t m) before ≡ None → Stands before (option_map_or (λ t. joined t m) before m)
-  stands_at None is no_clash = record { in_order = order; its_type = refl; above = below_refl m; of_before = refl; least = λ u _ below. below }
-  stands_at (Some t) is no_clash =
-      let known = stood t is in
+  after_put_at : (before : Option TypeMeta) → get r.types m.type_id ≡ before → option_and_then (λ t. clash_of t m) before ≡ None → IsTypeAfterPut before (option_map_or (λ t. joined t m) before m)
+  after_put_at None is no_clash = record { in_order = order; its_type = refl; above = below_refl m; of_before = refl; least = λ u _ below. below }
+  after_put_at (Some t) is no_clash =
+      let known = registered t is in
       let it : Joins t m = joins t m known.0 known.1 order no_clash in
       record {
         in_order = it.in_order;
@@ -73,12 +74,12 @@ module _ (r : Registered) (m : TypeMeta) (stood : IsStandingKept r m) (order : I
         least = it.is_least.least;
       }
 
-  stands : Stands (get r.types m.type_id) (put_type r m)
-  stands = stands_at (get r.types m.type_id) refl none
+  after_put_is : IsTypeAfterPut (get r.types m.type_id) (type_after_put r m)
+  after_put_is = after_put_at (get r.types m.type_id) refl none
 
-  -- what stands under an identifier then
-  after : (id : ℤ) → get (after_put r m).types id ≡ cond (eq_by_cmp int_cmp id m.type_id) (Some (put_type r m)) (get r.types id)
-  after id = get-insert int_cmp_total r.types m.type_id (put_type r m) id
+  -- what is registered under an identifier after the put
+  after : (id : ℤ) → get (registry_after_put r m).types id ≡ cond (eq_by_cmp int_cmp id m.type_id) (Some (type_after_put r m)) (get r.types id)
+  after id = get-insert int_cmp_total r.types m.type_id (type_after_put r m) id
 
   equal_ids : (id : ℤ) → eq_by_cmp int_cmp id m.type_id ≡ true → id ≡ m.type_id
   equal_ids id is = tied_ids id m.type_id is
@@ -86,38 +87,38 @@ module _ (r : Registered) (m : TypeMeta) (stood : IsStandingKept r m) (order : I
   other_ids : (id : ℤ) → eq_by_cmp int_cmp id m.type_id ≡ false → m.type_id ≢ id
   other_ids id is e = let tied : int_cmp id m.type_id ≡ Equal = rw (← e) (tied_itself int_cmp_total m.type_id) in let no : is_eq (int_cmp id m.type_id) ≡ true = ap is_eq tied in cc
 
-  pub kept_put : IsKept r → IsKept (after_put r m)
-  kept_put kept id t is =
-      elim (eq_by_cmp int_cmp id m.type_id) as (λ b. eq_by_cmp int_cmp id m.type_id ≡ b → cond b (Some (put_type r m)) (get r.types id) ≡ Some t → (t.type_id ≡ id) × IsInOrder t) [
+  pub well_formed_put : IsWellFormed r → IsWellFormed (registry_after_put r m)
+  well_formed_put well_formed id t is =
+      elim (eq_by_cmp int_cmp id m.type_id) as (λ b. eq_by_cmp int_cmp id m.type_id ≡ b → cond b (Some (type_after_put r m)) (get r.types id) ≡ Some t → (t.type_id ≡ id) × IsInOrder t) [
         | true ↦ λ e f.
-            let one : put_type r m ≡ t = cc in
-            (sym (ap (λ z. z.type_id) one) ∙ stands.its_type ∙ sym (equal_ids id e), subst IsInOrder one stands.in_order)
-        | false ↦ λ e f. kept id t f
+            let one : type_after_put r m ≡ t = cc in
+            (sym (ap (λ z. z.type_id) one) ∙ after_put_is.its_type ∙ sym (equal_ids id e), subst IsInOrder one after_put_is.in_order)
+        | false ↦ λ e f. well_formed id t f
       ] refl (sym (after id) ∙ is)
 
-  module _ (ms : List TypeMeta) (keeps : KeepsJoins r ms) where
-    -- among the descriptions, this one is the last
+  module _ (ms : List TypeMeta) (joins_of : HoldsJoinsOf r ms) where
+    -- m is the last of the descriptions
     last : Contains (ms ++ m ∷ []) m
     last = Contains-push ms m
 
-    here : (before : Option TypeMeta) (t : TypeMeta) → Stands before t → MatchOption before (NoneOf m.type_id ms) (λ s. IsLeastOf s m.type_id ms) → IsLeastOf t m.type_id (ms ++ m ∷ [])
+    here : (before : Option TypeMeta) (t : TypeMeta) → IsTypeAfterPut before t → MatchOption before (HasNoneOf m.type_id ms) (λ s. IsJoinOf s m.type_id ms) → IsJoinOf t m.type_id (ms ++ m ∷ [])
     here None t stand none_of = record {
       above = λ x is_in its. elim (Contains-push_cases ms m x is_in) [
         | inl before ↦ absurd (none_of x before its)
-        | inr e ↦ subst (λ z. Below z t) e stand.above
+        | inr e ↦ subst (λ z. IsBelow z t) e stand.above
       ];
       least = λ u all. stand.least u tt (all m last refl);
     }
     here (Some s) t stand least_of = record {
       above = λ x is_in its. elim (Contains-push_cases ms m x is_in) [
         | inl before ↦ below_trans x s t (least_of.above x before its) stand.of_before
-        | inr e ↦ subst (λ z. Below z t) e stand.above
+        | inr e ↦ subst (λ z. IsBelow z t) e stand.above
       ];
       least = λ u all. stand.least u (least_of.least u (λ x before its. all x (Contains-append_left ms (m ∷ []) x before) its)) (all m last refl);
     }
 
-    elsewhere : (id : ℤ) → m.type_id ≢ id → (o : Option TypeMeta) → MatchOption o (NoneOf id ms) (λ t. IsLeastOf t id ms)
-        → MatchOption o (NoneOf id (ms ++ m ∷ [])) (λ t. IsLeastOf t id (ms ++ m ∷ []))
+    elsewhere : (id : ℤ) → m.type_id ≢ id → (o : Option TypeMeta) → MatchOption o (HasNoneOf id ms) (λ t. IsJoinOf t id ms)
+        → MatchOption o (HasNoneOf id (ms ++ m ∷ [])) (λ t. IsJoinOf t id (ms ++ m ∷ []))
     elsewhere id other None none_of = λ x is_in its. elim (Contains-push_cases ms m x is_in) [
       | inl before ↦ none_of x before its
       | inr e ↦ other (ap (λ z. z.type_id) e ∙ its)
@@ -130,35 +131,35 @@ module _ (r : Registered) (m : TypeMeta) (stood : IsStandingKept r m) (order : I
       least = λ u all. least_of.least u (λ x before its. all x (Contains-append_left ms (m ∷ []) x before) its);
     }
 
-    pub keeps_put : KeepsJoins (after_put r m) (ms ++ m ∷ [])
-    keeps_put id =
-        let P : Option TypeMeta → Type 0 = λ o. MatchOption o (NoneOf id (ms ++ m ∷ [])) (λ t. IsLeastOf t id (ms ++ m ∷ [])) in
+    pub joins_of_put : HoldsJoinsOf (registry_after_put r m) (ms ++ m ∷ [])
+    joins_of_put id =
+        let P : Option TypeMeta → Type 0 = λ o. MatchOption o (HasNoneOf id (ms ++ m ∷ [])) (λ t. IsJoinOf t id (ms ++ m ∷ [])) in
         subst P (sym (after id))
-        (elim (eq_by_cmp int_cmp id m.type_id) as (λ b. eq_by_cmp int_cmp id m.type_id ≡ b → P (cond b (Some (put_type r m)) (get r.types id))) [
-          | true ↦ λ e. subst (λ i. IsLeastOf (put_type r m) i (ms ++ m ∷ [])) (sym (equal_ids id e)) (here (get r.types m.type_id) (put_type r m) stands (keeps m.type_id))
-          | false ↦ λ e. elsewhere id (other_ids id e) (get r.types id) (keeps id)
+        (elim (eq_by_cmp int_cmp id m.type_id) as (λ b. eq_by_cmp int_cmp id m.type_id ≡ b → P (cond b (Some (type_after_put r m)) (get r.types id))) [
+          | true ↦ λ e. subst (λ i. IsJoinOf (type_after_put r m) i (ms ++ m ∷ [])) (sym (equal_ids id e)) (here (get r.types m.type_id) (type_after_put r m) after_put_is (joins_of m.type_id))
+          | false ↦ λ e. elsewhere id (other_ids id e) (get r.types id) (joins_of id)
         ] refl)
 
 -- ---- what a registry answers
--- a type that is found is in order, and of the identifier that was asked for
-pub kept_found : (r : Registered) (id : ℤ) (o : Option (Bor TypeMeta)) → IsKept r → option_copied o ≡ get r.types id → IfSome o (λ t. (t.now.type_id ≡ id) × IsInOrder t.now)
-kept_found r id None kept is = tt
-kept_found r id (Some t) kept is = kept id t.now (sym is)
+-- a type that is found is in order and has the identifier
+pub found_in_order : (r : Registered) (id : ℤ) (o : Option (Bor TypeMeta)) → IsWellFormed r → option_copied o ≡ get r.types id → IfSome o (λ t. (t.now.type_id ≡ id) × IsInOrder t.now)
+found_in_order r id None well_formed is = tt
+found_in_order r id (Some t) well_formed is = well_formed id t.now (sym is)
 
--- ---- what an insert into std's maps makes of a registry
+-- ---- an insert into std's maps is the insert that the contract names
 pub put_is : (r : Registered) (es fs : List (ℤ × TypeMeta)) (names : FinMap by_place (List ℕ)) (m t : TypeMeta) (key : ℤ)
-    → from_entries es ≡ r.types → names ≡ r.names → key ≡ m.type_id → t ≡ put_type r m
+    → from_entries es ≡ r.types → names ≡ r.names → key ≡ m.type_id → t ≡ type_after_put r m
     → ((q : ℤ) → lookup (is_at (int_cmp q)) fs ≡ cond (is_at (int_cmp key) q) (Some t) (lookup (is_at (int_cmp q)) es))
-    → ◌≡◌ {A = Registered} (record { types = from_entries fs; names = names }) (after_put r m)
+    → ◌≡◌ {A = Registered} (record { types = from_entries fs; names = names }) (registry_after_put r m)
 put_is r es fs names m t key is_types is_names is_key is_type updates =
-    let types : from_entries fs ≡ insert r.types m.type_id (put_type r m) =
+    let types : from_entries fs ≡ insert r.types m.type_id (type_after_put r m) =
     inserted int_cmp int_cmp_total exact_signed es fs key t updates ∙ ap (λ ts. insert ts key t) is_types ∙ ap (λ k. insert r.types k t) is_key ∙ ap (insert r.types m.type_id) is_type in
     λ i. record { types = types i; names = is_names i }
 
 pub name_is : (r : Registered) (es fs : List ((ℕ × ℤ) × List ℕ)) (types : FinMap int_cmp TypeMeta) (place key : ℕ × ℤ) (name : List ℕ)
     → types ≡ r.types → from_entries es ≡ r.names → key ≡ place → get r.names place ≡ None
     → ((q : ℕ × ℤ) → lookup (is_at (by_place q)) fs ≡ cond (is_at (by_place key) q) (Some name) (lookup (is_at (by_place q)) es))
-    → ◌≡◌ {A = Registered} (record { types = types; names = from_entries fs }) (after_name r place name)
+    → ◌≡◌ {A = Registered} (record { types = types; names = from_entries fs }) (registry_after_name r place name)
 name_is r es fs types place key name is_types is_names is_key none updates =
     let names : from_entries fs ≡ insert r.names place name =
     inserted by_place by_place_total by_place_exact es fs key name updates ∙ ap (λ ns. insert ns key name) is_names ∙ ap (λ k. insert r.names k name) is_key in
@@ -166,25 +167,25 @@ name_is r es fs types place key name is_types is_names is_key none updates =
     λ i. record { types = is_types i; names = names i } in
     whole ∙ ap (λ o. option_map_or (λ _. r) o (record r { names = insert r.names place name })) (sym none)
 
--- then the name stands there
-pub name_stands : (r : Registered) (place : ℕ × ℤ) (name : List ℕ) → get r.names place ≡ None → get (after_name r place name).names place ≡ Some name
+-- after that the name is registered
+pub name_stands : (r : Registered) (place : ℕ × ℤ) (name : List ℕ) → get r.names place ≡ None → get (registry_after_name r place name).names place ≡ Some name
 name_stands r place name none =
     ap (λ o. get (option_map_or (λ _. r) o (record r { names = insert r.names place name })).names place) none
     ∙ get-insert by_place_total r.names place name place
     ∙ ap (λ o. cond (is_eq o) (Some name) (get r.names place)) (tied_itself by_place_total place)
 
--- ---- a description that stands there already
-pub record Known (r : Registered) (m : TypeMeta) : Type 0 where
+-- ---- a description that says nothing new
+pub record IsKnown (r : Registered) (m : TypeMeta) : Type 0 where
   pub no_clash : put_clash r m ≡ None
-  pub same : after_put r m ≡ r
+  pub same : registry_after_put r m ≡ r
 
-pub known : (r : Registered) (m t : TypeMeta) → (t.type_id ≡ m.type_id) × IsInOrder t → IsInOrder m → get r.types m.type_id ≡ Some t → Below m t → Known r m
+pub known : (r : Registered) (m t : TypeMeta) → (t.type_id ≡ m.type_id) × IsInOrder t → IsInOrder m → get r.types m.type_id ≡ Some t → IsBelow m t → IsKnown r m
 known r m t its order found below =
     let none : clash_of t m ≡ None = no_clash_below t m t its.1 its.1 (below_refl t) below in
     let it : Joins t m = joins t m its.0 its.1 order none in
     let type : joined t m ≡ t = same_from_below (joined t m) t it.in_order its.1 (it.is_least.least t (below_refl t) below) it.is_least.first in
-    let put : put_type r m ≡ t = ap (λ o. option_map_or (λ s. joined s m) o m) found ∙ type in
-    let types : insert r.types m.type_id (put_type r m) ≡ r.types = same_map int_cmp_total exact_signed _ _ (λ q. get-insert int_cmp_total r.types m.type_id (put_type r m) q ∙ unchanged q (put_type r m) put) in
+    let put : type_after_put r m ≡ t = ap (λ o. option_map_or (λ s. joined s m) o m) found ∙ type in
+    let types : insert r.types m.type_id (type_after_put r m) ≡ r.types = same_map int_cmp_total exact_signed _ _ (λ q. get-insert int_cmp_total r.types m.type_id (type_after_put r m) q ∙ unchanged q (type_after_put r m) put) in
     record { no_clash = ap (option_and_then (λ s. clash_of s m)) found ∙ none; same = λ i. record { types = types i; names = r.names } }
   where
     unchanged : (q : ℤ) (p : TypeMeta) → p ≡ t → cond (eq_by_cmp int_cmp q m.type_id) (Some p) (get r.types q) ≡ get r.types q
@@ -194,5 +195,5 @@ known r m t its order found below =
           | false ↦ λ e. refl
         ] refl
 
-pub standing_kept : (r : Registered) (m t : TypeMeta) → (t.type_id ≡ m.type_id) × IsInOrder t → get r.types m.type_id ≡ Some t → IsStandingKept r m
-standing_kept r m t its found u is = let one : t ≡ u = cc in subst (λ x. (x.type_id ≡ m.type_id) × IsInOrder x) one its
+pub registered_in_order : (r : Registered) (m t : TypeMeta) → (t.type_id ≡ m.type_id) × IsInOrder t → get r.types m.type_id ≡ Some t → IsRegisteredInOrder r m
+registered_in_order r m t its found u is = let one : t ≡ u = cc in subst (λ x. (x.type_id ≡ m.type_id) × IsInOrder x) one its

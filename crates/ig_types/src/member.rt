@@ -1,4 +1,5 @@
-//! What the lists of a description have in common: each part stands under a key, in the keys' order.
+//! The members of a description: fields, literals and schemas. Each member has a key, a field and a
+//! literal its name, a schema its identifier, and each list is ordered by the keys.
 
 ghost use Rattle.std.specs.Prelude.{◌≡◌, Bool, IfOk, Decides};
 ghost use Rattle.std.specs.Cmp.{IsTotalOrder};
@@ -12,15 +13,15 @@ use ig_base::{Items, NoMemory};
 use std::alloc::Global;
 use std::cmp::Ordering;
 
-/// A part of a description.
-pub(crate) trait Part: Drop + Sized {
-    /// How two parts compare by their keys.
+/// A field, a literal or a schema.
+pub(crate) trait Member: Drop + Sized {
+    /// The order of two members by their keys.
     ghost rank: { Self → Self → Ordering };
 
-    /// Whether two parts are one.
+    /// Whether two members are equal.
     ghost same: { Self → Self → Bool };
 
-    /// The clash of two parts that differ under one key.
+    /// The clash of two members with the same key that are not equal.
     ghost clash: { Self → Self → Clash };
 
     fn compare(&self, other: &Self) -> Ordering
@@ -35,17 +36,17 @@ pub(crate) trait Part: Drop + Sized {
     fn copy(&self, alloc: Global) -> Result<Self, NoMemory>
         ensures { IfOk result (λ copy. copy ≡ self.now) };
 
-    /// The keys are in order.
-    ghost ranked: { IsTotalOrder rank };
+    /// The order of the keys is total.
+    ghost rank_is_total: { IsTotalOrder rank };
 
-    /// Parts that are one are equal.
-    ghost exact: { (x y : Self) → Decides (same x y) (x ≡ y) };
+    /// The test of equality is exact.
+    ghost same_is_exact: { (x y : Self) → Decides (same x y) (x ≡ y) };
 }
 
-impl Part for FieldMeta {
-    ghost use Rattle.ig_types.specs.Bound.{by_field};
+impl Member for FieldMeta {
+    ghost use Rattle.ig_types.specs.IsInOrder.{by_field};
     ghost use Rattle.ig_types.specs.Join.{same_field};
-    ghost use Rattle.ig_types.specs.Keys.{by_field_total, same_field_exact};
+    ghost use Rattle.ig_types.specs.MemberLaws.{by_field_total, same_field_exact};
 
     ghost rank = { by_field };
 
@@ -53,9 +54,9 @@ impl Part for FieldMeta {
 
     ghost clash = { λ x y. clash.Field x y };
 
-    ghost ranked = { by_field_total };
+    ghost rank_is_total = { by_field_total };
 
-    ghost exact = { same_field_exact };
+    ghost same_is_exact = { same_field_exact };
 
     fn compare(&self, other: &FieldMeta) -> Ordering {
         self.name.as_str().cmp(&other.name.as_str())
@@ -78,10 +79,10 @@ impl Part for FieldMeta {
     }
 }
 
-impl Part for Literal {
-    ghost use Rattle.ig_types.specs.Bound.{by_literal};
+impl Member for Literal {
+    ghost use Rattle.ig_types.specs.IsInOrder.{by_literal};
     ghost use Rattle.ig_types.specs.Join.{same_literal};
-    ghost use Rattle.ig_types.specs.Keys.{by_literal_total, same_literal_exact};
+    ghost use Rattle.ig_types.specs.MemberLaws.{by_literal_total, same_literal_exact};
 
     ghost rank = { by_literal };
 
@@ -89,9 +90,9 @@ impl Part for Literal {
 
     ghost clash = { λ x y. clash.Literal x y };
 
-    ghost ranked = { by_literal_total };
+    ghost rank_is_total = { by_literal_total };
 
-    ghost exact = { same_literal_exact };
+    ghost same_is_exact = { same_literal_exact };
 
     fn compare(&self, other: &Literal) -> Ordering {
         self.name.as_str().cmp(&other.name.as_str())
@@ -113,10 +114,10 @@ impl Part for Literal {
     }
 }
 
-impl Part for SchemaMeta {
-    ghost use Rattle.ig_types.specs.Bound.{by_schema};
+impl Member for SchemaMeta {
+    ghost use Rattle.ig_types.specs.IsInOrder.{by_schema};
     ghost use Rattle.ig_types.specs.Join.{same_schema};
-    ghost use Rattle.ig_types.specs.Keys.{by_schema_total, same_schema_exact};
+    ghost use Rattle.ig_types.specs.MemberLaws.{by_schema_total, same_schema_exact};
 
     ghost rank = { by_schema };
 
@@ -124,9 +125,9 @@ impl Part for SchemaMeta {
 
     ghost clash = { λ x y. clash.Schema x y };
 
-    ghost ranked = { by_schema_total };
+    ghost rank_is_total = { by_schema_total };
 
-    ghost exact = { same_schema_exact };
+    ghost same_is_exact = { same_schema_exact };
 
     fn compare(&self, other: &SchemaMeta) -> Ordering {
         self.id.cmp(&other.id)

@@ -1,4 +1,4 @@
--- Strictly sorted lists: their parts, what they contain, and that what they contain tells them apart.
+-- Strictly sorted lists: their first element and their tail, what they contain, and the test that a list is sorted.
 use Rattle.std.proofs.Common.{◌≡◌, true, zero, suc, ◌⊎◌, List, [], ◌∷◌, refl, sym, ap, subst, ◌∙◌, inl, inr, arith, Contains}
 use Rattle.std.specs.List.{AllByRecursion}
 use Rattle.std.specs.List.Sorted.{IsStrictlySortedBy}
@@ -7,7 +7,7 @@ use Rattle.std.specs.Cmp.{IsTotalOrder}
 use Rattle.std.specs.declared.cmp.Ordering.{Ordering}
 use Rattle.std.specs.declared.cmp.Ordering.TheVariants.{Less, Equal, Greater}
 
--- ---- membership, by the front of the list
+-- ---- membership, by the first element and the tail
 pub contains_nil : {X : Type 0} (z : X) → Contains [] z → ⊥
 contains_nil z (k, lt, e) = omega arith
 
@@ -21,7 +21,7 @@ pub contains_cases : {X : Type 0} (x : X) (xs : List X) (z : X) → Contains (x 
 contains_cases x xs z (zero, lt, e) = inl (sym e)
 contains_cases x xs z (suc k, lt, e) = inr (k, omega (arith, lt), e)
 
--- ---- what holds of each element
+-- ---- facts that hold of each element
 pub each_weaker : {X : Type 0} (P Q : X → Type 0) → ((x : X) → P x → Q x) → (xs : List X) → AllByRecursion P xs → AllByRecursion Q xs
 each_weaker P Q weaker [] all = tt
 each_weaker P Q weaker (x ∷ xs) all = (weaker x all.0, each_weaker P Q weaker xs all.1)
@@ -33,9 +33,9 @@ each_at P (x ∷ xs) z all is_in = elim (contains_cases x xs z is_in) [
   | inr later ↦ each_at P xs z all.1 later
 ]
 
--- ---- an order and the lists that ascend in it
+-- ---- an order and the lists that are sorted by it
 module _ {X : Type 0} (rank : X → X → Ordering) where
-  -- x stands before each of ys
+  -- x is less than each of ys
   abbrev pub Before : X → List X → Type 0
   Before x ys = AllByRecursion (λ y. rank x y ≡ Less) ys
 
@@ -55,26 +55,26 @@ module _ {X : Type 0} (rank : X → X → Ordering) where
   unfolding IsStrictlySortedBy
   sorted_cons x xs before sorted = (before, sorted)
 
--- the same order, read from the other side
+-- the order with its arguments swapped
 pub more_from_less : {X : Type 0} (rank : X → X → Ordering) → IsTotalOrder rank → (x y : X) → rank x y ≡ Less → rank y x ≡ Greater
 more_from_less rank o x y less = o.antisymm y x ∙ ap ordering_reverse less
 
 pub less_from_more : {X : Type 0} (rank : X → X → Ordering) → IsTotalOrder rank → (x y : X) → rank x y ≡ Greater → rank y x ≡ Less
 less_from_more rank o x y more = o.antisymm y x ∙ ap ordering_reverse more
 
--- what stands before y stands before all that y stands before
+-- if x is less than y, it is less than all that y is less than
 pub before_all : {X : Type 0} (rank : X → X → Ordering) → IsTotalOrder rank → (x y : X) (ys : List X) → rank x y ≡ Less → Before rank y ys → Before rank x ys
 before_all rank o x y ys less = each_weaker (λ z. rank y z ≡ Less) (λ z. rank x z ≡ Less) (λ z. o.trans x y z less) ys
 
--- what ties with y stands before all that y stands before
+-- if x ties with y, it is less than all that y is less than
 pub tied_before_all : {X : Type 0} (rank : X → X → Ordering) → IsTotalOrder rank → (x y : X) (ys : List X) → rank x y ≡ Equal → Before rank y ys → Before rank x ys
 tied_before_all rank o x y ys tied = each_weaker (λ z. rank y z ≡ Less) (λ z. rank x z ≡ Less) (λ z less. o.congr x y z tied ∙ less) ys
 
--- one more in front of a list that ascends
+-- a sorted list stays sorted with a smaller element in front
 pub sorted_more : {X : Type 0} (rank : X → X → Ordering) → IsTotalOrder rank → (x y : X) (ys : List X) → rank x y ≡ Less → IsStrictlySortedBy rank (y ∷ ys) → IsStrictlySortedBy rank (x ∷ y ∷ ys)
 sorted_more rank o x y ys less sorted = sorted_cons rank x (y ∷ ys) (less, before_all rank o x y ys less (sorted_first rank y ys sorted)) sorted
 
--- ---- a walk along a list: what is left, from the last part that was seen, ascends exactly where the whole does
+-- ---- the loop invariant of the test: the last element seen and the rest are sorted exactly where the whole list is
 pub record Ascends {X : Type 0} (rank : X → X → Ordering) (last : X) (rest all : List X) : Type 0 where
   pub there : IsStrictlySortedBy rank (last ∷ rest) → IsStrictlySortedBy rank all
   pub back : IsStrictlySortedBy rank all → IsStrictlySortedBy rank (last ∷ rest)
