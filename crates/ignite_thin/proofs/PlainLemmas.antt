@@ -1,4 +1,4 @@
--- What the commands that wait for nobody do.
+-- That a command does what its words ask for.
 use Rattle.std.proofs.Common.{◌≡◌, ℕ, List, [], ◌∷◌, Option, Some, refl, subst}
 use Rattle.ig_link.specs.States.{SourceState, SinkState}
 use Rattle.ig_session.specs.Caches.{Plain, opened}
@@ -30,7 +30,7 @@ pipe_runs caches caller caller' name source source' sink sink' end status stood 
   status_is = is;
 }
 
--- where nothing was done for want of memory
+-- out of memory before anything was read
 pub pipe_none : (name : List ℕ) (source : SourceState) (sink : SinkState) → PipeRuns name source source sink sink 5
 pipe_none name source sink = record {
   end = ends.NoMemory;

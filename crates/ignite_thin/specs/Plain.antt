@@ -1,4 +1,4 @@
--- What the commands that wait for nobody do.
+-- What a command over a source and a sink does, by its words.
 use Rattle.std.specs.Prelude.{◌≡◌, ℕ, List, [], ◌∷◌, Option, None, Some}
 use Rattle.ig_link.specs.States.{SourceState, SinkState, SourceAdvances, SinkAdvances}
 use Rattle.ig_session.specs.Caches.{opened}
@@ -9,8 +9,9 @@ use Rattle.ig_session.specs.declared.end.SessionEnd.{SessionEnd}
 use Rattle.ignite_thin.specs.Words.{pipe_name}
 use Rattle.ignite_thin.specs.Statuses.{status_of}
 
--- One session was served over the source and the sink: of the input that it took and the output that it wrote
--- there is one history of plain caches, legal from the named cache without rows.
+-- One session was served over the source and the sink. There is one history of plain caches, legal from the named
+-- cache without rows, that agrees with the input that was taken and the output that was written. The end has its
+-- cause, and the status says the end.
 pub record PipeRuns (name : List ℕ) (source source' : SourceState) (sink sink' : SinkState) (status : ℕ) : Type 0 where
   pub end : SessionEnd
   pub input : List ℕ
@@ -23,10 +24,11 @@ pub record PipeRuns (name : List ℕ) (source source' : SourceState) (sink sink'
   pub caused : IsCaused end source source' sink sink'
   pub status_is : status ≡ status_of end
 
+-- where the words name a cache, a session was served; else nothing was read or written, and the status is 1
 abbrev pub RunsPipe : Option (List ℕ) → SourceState → SourceState → SinkState → SinkState → ℕ → Type 0
 RunsPipe None source source' sink sink' status = (status ≡ 1) × (source' ≡ source) × (sink' ≡ sink)
 RunsPipe (Some name) source source' sink sink' status = PipeRuns name source source' sink sink' status
 
--- words that are no command do nothing, with status 1
+-- the same, by the words
 abbrev pub RunsPlain : List (List ℕ) → SourceState → SourceState → SinkState → SinkState → ℕ → Type 0
 RunsPlain words source source' sink sink' status = RunsPipe (pipe_name words) source source' sink sink' status

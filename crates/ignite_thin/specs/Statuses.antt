@@ -1,9 +1,9 @@
--- The program's status.
+-- The program's exit status.
 use Rattle.std.specs.Prelude.{ℕ}
 use Rattle.ig_session.specs.declared.end.SessionEnd.{SessionEnd}
 use Rattle.ig_session.specs.declared.end.SessionEnd.TheVariants as ends
 
--- how a session ended
+-- the status that says how a session ended
 abbrev pub status_of : SessionEnd → ℕ
 status_of ends.Ended = 0
 status_of (ends.Truncated missing) = 4

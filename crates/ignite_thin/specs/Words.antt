@@ -1,4 +1,4 @@
--- What the words say.
+-- What the program's words ask for.
 use Rattle.std.specs.Prelude.{ℕ, Bool, length, slice_index, not, ◌&&◌, ◌==◌, nat_lt, List, [], ◌∷◌, codes, Option, None, Some, if◌then◌else◌}
 use Rattle.std.specs.List.{list_all}
 use Rattle.std.specs.Str.{bytes_eq}

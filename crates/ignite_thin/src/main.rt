@@ -1,36 +1,45 @@
 //! A server of the Apache Ignite thin client protocol.
 //!
-//! `ignite_thin pipe NAME` serves one session of a cache over standard input and output.
+//! `ignite_thin pipe NAME` serves one session over standard input and output. `main` makes the real
+//! streams, calls `run_plain`, which carries the contract, and says on standard error why it failed.
 #![tactic(auto)]
 
 mod plain;
+mod statuses;
 mod words;
 
 use ig_link::{PipeIn, PipeOut};
-use plain::{NO_MEMORY, USAGE, run_plain};
+use plain::run_plain;
+use statuses::{ENDED, Help, NO_MEMORY, OUTPUT_FAILED, USAGE, meaning};
 use std::env;
 use std::io::ErrorKind;
 use std::process::ExitCode;
 
-const HELP: &str = "\
-usage: ignite_thin pipe NAME
-
-pipe    serves one session over standard input and output, with the one cache NAME
-
-The status is 0 where the input ended behind a whole request, 1 for other words,
-2 where the input failed, 3 where the output failed, 4 where the input ended
-inside a frame, a length was out of range or the hello was refused, 5 for want of
-memory, and 6 where 2^48 bytes were taken.";
-
-/// Prints to standard output what a person asked for by its only word.
-fn told(rt: &HostRuntime, words: &[String]) -> bool {
+/// Prints to standard output what the only word asks for, and returns the status. `None` where it
+/// asks for nothing of that kind.
+fn print_asked(rt: &HostRuntime, words: &[String]) -> Option<u8> {
     let [word] = words else {
-        return false;
+        return None;
     };
-    match word.as_str() {
-        "--help" => rt.println(HELP).is_ok(),
-        "--version" => rt.println("ignite_thin 0.1.0").is_ok(),
-        _ => false,
+    let printed = match word.as_str() {
+        "--help" => rt.println(Help),
+        "--version" => rt.println("ignite_thin 0.1.0"),
+        _ => return None,
+    };
+    Some(if printed.is_ok() {
+        ENDED
+    } else {
+        OUTPUT_FAILED
+    })
+}
+
+/// Says on standard error why the program ends with a status other than 0.
+fn report(rt: &HostRuntime, status: u8) {
+    if status == USAGE {
+        let _ = rt.eprintln(Help);
+    } else if status != ENDED {
+        let reason = meaning(status).unwrap_or("");
+        let _ = eprintln!(rt; "ignite_thin: {reason}");
     }
 }
 
@@ -43,15 +52,13 @@ fn main(rt: HostRuntime) -> ExitCode {
         Err(e) if e.kind() == ErrorKind::OutOfMemory => return ExitCode::from(NO_MEMORY),
         Err(_) => return ExitCode::from(USAGE),
     };
-    if told(&rt, &words) {
-        return ExitCode::SUCCESS;
+    if let Some(status) = print_asked(&rt, &words) {
+        return ExitCode::from(status);
     }
     let mut source = PipeIn::new(rt.stdin());
     let mut sink = PipeOut::new(rt.stdout());
     let status = run_plain(rt.alloc(), &words, &mut source, &mut sink);
-    if status == USAGE {
-        let _ = rt.eprintln(HELP);
-    }
+    report(&rt, status);
     ExitCode::from(status)
 }
 

@@ -1,20 +1,24 @@
+//! Sessions over links in memory, from the words to the status.
+
 use crate::plain::run_plain;
 use ig_base::{NoMemory, Octets, put_i16, put_i32, put_i64};
 use ig_link::{MemLink, ReadStep, WriteStep};
 use std::alloc::Global;
+use std::process::Abort;
 use std::test::Fail;
 
-const HELLO: &str = "08000000 01 0100 0000 0000 02";
+/// The identifier of the cache `main`, the hash of its name.
+const MAIN: i32 = 3_343_801;
 
-const ACCEPTED: &str = "01000000 01";
+const GET: i16 = 1000;
 
-const PUT: &str = "19000000 E903 0100000000000000 B9053300 00 0301000000 0302000000";
+const PUT: i16 = 1001;
 
-const PUT_REPLY: &str = "0C000000 0100000000000000 00000000";
-
-const GET: &str = "14000000 E803 0200000000000000 B9053300 00 0301000000";
-
-const GET_REPLY: &str = "11000000 0200000000000000 00000000 0302000000";
+/// The spelling of an int.
+fn int(n: i32) -> [u8; 5] {
+    let [a, b, c, d] = n.to_le_bytes();
+    [3, a, b, c, d]
+}
 
 fn digit(byte: u8) -> Option<u8> {
     match byte {
@@ -24,23 +28,101 @@ fn digit(byte: u8) -> Option<u8> {
     }
 }
 
-/// The bytes that texts in hex say, whatever stands between the digits.
-fn bytes(alloc: Global, texts: &[&str]) -> Result<Vec<u8>, Fail> {
-    let mut out = Vec::new(alloc);
+/// The bytes that a text in hex says, whatever stands between the digits.
+fn bytes(alloc: Global, text: &str) -> Result<Octets, NoMemory> {
+    let mut out = Octets::empty(alloc);
     let mut high = None;
-    for text in texts {
-        for byte in text.as_bytes() {
-            match (digit(*byte), high) {
-                (None, _) => {}
-                (Some(low), Some(first)) => {
-                    out.push((first << 4) | low)?;
-                    high = None;
-                }
-                (Some(first), None) => high = Some(first),
+    for byte in text.as_bytes() {
+        match (digit(*byte), high) {
+            (None, _) => {}
+            (Some(low), Some(first)) => {
+                out.push((first << 4) | low)?;
+                high = None;
             }
+            (Some(first), None) => high = Some(first),
         }
     }
     Ok(out)
+}
+
+/// One direction of a session: its frames, laid end to end.
+#[derive(Drop)]
+struct Stream {
+    alloc: Global,
+    bytes: Octets,
+}
+
+impl Stream {
+    /// What a client sends, from its hello on.
+    fn client(alloc: Global) -> Result<Stream, NoMemory> {
+        let bytes = bytes(alloc, "08000000 01 0100 0000 0000 02")?;
+        Ok(Stream { alloc, bytes })
+    }
+
+    /// What the server answers, from the acceptance on.
+    fn server(alloc: Global) -> Result<Stream, NoMemory> {
+        let bytes = bytes(alloc, "01000000 01")?;
+        Ok(Stream { alloc, bytes })
+    }
+
+    fn frame(&mut self, body: &Octets) -> Result<(), NoMemory> {
+        put_i32(&mut self.bytes, i32::try_from(body.len()).unwrap_or(0))?;
+        self.bytes.append(body.as_slice())
+    }
+
+    fn hex(&mut self, text: &str) -> Result<(), NoMemory> {
+        let more = bytes(self.alloc, text)?;
+        self.bytes.append(more.as_slice())
+    }
+
+    fn request(&mut self, operation: i16, id: i64, fields: &[u8]) -> Result<(), NoMemory> {
+        let mut body = Octets::empty(self.alloc);
+        put_i16(&mut body, operation)?;
+        put_i64(&mut body, id)?;
+        body.append(fields)?;
+        self.frame(&body)
+    }
+
+    fn get(&mut self, id: i64, key: &[u8]) -> Result<(), NoMemory> {
+        let mut fields = Octets::empty(self.alloc);
+        put_i32(&mut fields, MAIN)?;
+        fields.push(0)?;
+        fields.append(key)?;
+        self.request(GET, id, fields.as_slice())
+    }
+
+    fn put(&mut self, id: i64, key: &[u8], value: &[u8]) -> Result<(), NoMemory> {
+        let mut fields = Octets::empty(self.alloc);
+        put_i32(&mut fields, MAIN)?;
+        fields.push(0)?;
+        fields.append(key)?;
+        fields.append(value)?;
+        self.request(PUT, id, fields.as_slice())
+    }
+
+    fn reply(&mut self, id: i64, status: i32, rest: &[u8]) -> Result<(), NoMemory> {
+        let mut body = Octets::empty(self.alloc);
+        put_i64(&mut body, id)?;
+        put_i32(&mut body, status)?;
+        body.append(rest)?;
+        self.frame(&body)
+    }
+
+    fn done(&mut self, id: i64) -> Result<(), NoMemory> {
+        self.reply(id, 0, &[])
+    }
+
+    fn found(&mut self, id: i64, value: &[u8]) -> Result<(), NoMemory> {
+        self.reply(id, 0, value)
+    }
+
+    fn fault(&mut self, id: i64, status: i32, text: &str) -> Result<(), NoMemory> {
+        let mut reason = Octets::empty(self.alloc);
+        reason.push(9)?;
+        put_i32(&mut reason, i32::try_from(text.len()).unwrap_or(0))?;
+        reason.append(text.as_bytes())?;
+        self.reply(id, status, reason.as_slice())
+    }
 }
 
 /// What a run over links in memory did.
@@ -51,14 +133,14 @@ struct Run {
     sink: MemLink,
 }
 
-/// Runs a command over a source that gives the input, and then fails if that is asked, and a sink that
-/// does these steps.
+/// Runs a command over a source that gives the input and then fails, if that is asked, and over a
+/// sink that follows these steps.
 fn run_over(
     alloc: Global,
     words: &[&str],
     input: &[u8],
     fails: bool,
-    steps: Vec<WriteStep>,
+    writes: Vec<WriteStep>,
 ) -> Result<Run, Fail> {
     let mut owned = Vec::new(alloc);
     for word in words {
@@ -70,7 +152,7 @@ fn run_over(
         reads.push(ReadStep::Fault)?;
     }
     let mut source = MemLink::new(alloc, reads, Vec::new(alloc), 0)?;
-    let mut sink = MemLink::new(alloc, Vec::new(alloc), steps, 1 << 24)?;
+    let mut sink = MemLink::new(alloc, Vec::new(alloc), writes, 1 << 24)?;
     let status = run_plain(alloc, &owned, &mut source, &mut sink);
     Ok(Run {
         status,
@@ -79,88 +161,128 @@ fn run_over(
     })
 }
 
-/// Sessions byte by byte: what goes in, what comes out, and the status.
+/// Whether `pipe main` writes this output for an input, and ends with this status.
+fn answers(alloc: Global, input: &[u8], output: &[u8], status: u8) -> Result<bool, Fail> {
+    let run = run_over(alloc, &["pipe", "main"], input, false, Vec::new(alloc))?;
+    Ok(run.status == status && run.sink.written() == Some(output))
+}
+
+/// The server answers this client so, and the program ends with this status.
+fn check<R: Abort>(rt: &R, client: &Stream, server: &Stream, status: u8) -> Result<(), Fail> {
+    let input = client.bytes.as_slice();
+    let output = server.bytes.as_slice();
+    assert!(rt; answers(client.alloc, input, output, status)?);
+    Ok(())
+}
+
 #[test]
-fn sessions(rt: HostRuntime) -> Result<(), Fail> {
-    let table: [(&[&str], &[&str], u8); 13] = [
-        (&[HELLO], &[ACCEPTED], 0),
-        (
-            &["08000000 01 0100 0700 0000 02"],
-            &["1F000000 00 0100 0000 0000 09 13000000 756E737570706F727465642076657273696F6E"],
-            4,
-        ),
-        (&[], &[], 4),
-        (&[HELLO, PUT], &[ACCEPTED, PUT_REPLY], 0),
-        (&[HELLO, PUT, GET], &[ACCEPTED, PUT_REPLY, GET_REPLY], 0),
-        // A cache that isn't there, and the session goes on.
-        (
-            &[
-                HELLO,
-                "14000000 E803 0300000000000000 07000000 00 0301000000",
-                PUT,
-            ],
-            &[
-                ACCEPTED,
-                "25000000 0300000000000000 E8030000 09 14000000 636163686520646F6573206E6F74206578697374",
-                PUT_REPLY,
-            ],
-            0,
-        ),
-        // Ended inside a length, and inside a frame.
-        (&[HELLO, PUT, "1400"], &[ACCEPTED, PUT_REPLY], 4),
-        (&[HELLO, PUT, "14000000 E803"], &[ACCEPTED, PUT_REPLY], 4),
-        // Lengths out of range.
-        (&[HELLO, "FFFFFFFF"], &[ACCEPTED], 4),
-        (&[HELLO, "09000000"], &[ACCEPTED], 4),
-        (&[HELLO, "01008000"], &[ACCEPTED], 4),
-        // Two requests with one identifier have two replies.
-        (
-            &[
-                HELLO,
-                "19000000 E903 0700000000000000 B9053300 00 0301000000 0305000000",
-                "19000000 E903 0700000000000000 B9053300 00 0302000000 0306000000",
-                GET,
-            ],
-            &[
-                ACCEPTED,
-                "0C000000 0700000000000000 00000000",
-                "0C000000 0700000000000000 00000000",
-                "11000000 0200000000000000 00000000 0305000000",
-            ],
-            0,
-        ),
-        // An operation that isn't there, a key without a row, a key that doesn't read, and a null key.
-        (
-            &[
-                HELLO,
-                "0A000000 D207 0500000000000000",
-                "11000000 E803 0600000000000000 B9053300 00 0801",
-                "11000000 E803 0600000000000000 B9053300 00 0802",
-                "10000000 E803 0100000000000000 B9053300 00 65",
-            ],
-            &[
-                ACCEPTED,
-                "27000000 0500000000000000 02000000 09 16000000 696E76616C6964206F7065726174696F6E20636F6465",
-                "0D000000 0600000000000000 00000000 65",
-                "28000000 0600000000000000 01000000 09 17000000 6D616C666F726D65642072657175657374206174203230",
-                "22000000 0100000000000000 01000000 09 11000000 6E756C6C206B6579206F722076616C7565",
-            ],
-            0,
-        ),
-    ];
-    for (input, output, status) in &table {
-        let input = bytes(rt.alloc(), input)?;
-        let output = bytes(rt.alloc(), output)?;
-        let run = run_over(
-            rt.alloc(),
-            &["pipe", "main"],
-            &input,
-            false,
-            Vec::new(rt.alloc()),
-        )?;
-        assert_eq!(rt; run.status, *status);
-        assert!(rt; run.sink.written() == Some(output.as_slice()));
+fn a_value_comes_back_under_its_key(rt: HostRuntime) -> Result<(), Fail> {
+    let mut client = Stream::client(rt.alloc())?;
+    let mut server = Stream::server(rt.alloc())?;
+    client.put(1, &int(1), &int(2))?;
+    server.done(1)?;
+    client.get(2, &int(1))?;
+    server.found(2, &int(2))?;
+    client.get(3, &int(7))?;
+    server.found(3, &[101])?;
+    // Two requests with one identifier have two replies.
+    client.put(4, &int(1), &int(5))?;
+    server.done(4)?;
+    client.put(4, &int(2), &int(6))?;
+    server.done(4)?;
+    client.get(5, &int(1))?;
+    server.found(5, &int(5))?;
+    check(&rt, &client, &server, 0)
+}
+
+#[test]
+fn a_refused_request_has_its_reason_and_the_session_goes_on(rt: HostRuntime) -> Result<(), Fail> {
+    let mut client = Stream::client(rt.alloc())?;
+    let mut server = Stream::server(rt.alloc())?;
+    client.request(2002, 1, &[])?;
+    server.fault(1, 2, "invalid operation code")?;
+    client.request(GET, 2, &[7, 0, 0, 0, 0, 8, 1])?;
+    server.fault(2, 1000, "cache does not exist")?;
+    client.get(3, &[101])?;
+    server.fault(3, 1, "null key or value")?;
+    client.put(4, &int(1), &[101])?;
+    server.fault(4, 1, "null key or value")?;
+    client.get(5, &[8, 2])?;
+    server.fault(5, 1, "malformed request at 20")?;
+    client.put(6, &int(1), &int(2))?;
+    server.done(6)?;
+    check(&rt, &client, &server, 0)
+}
+
+/// Openings of a session: the bytes in, the bytes out, and the status.
+static OPENINGS: [(&str, &str, u8); 4] = [
+    ("08000000 01 0100 0000 0000 02", "01000000 01", 0),
+    (
+        "08000000 01 0100 0700 0000 02",
+        "1F000000 00 0100 0000 0000 09 13000000 756E737570706F727465642076657273696F6E",
+        4,
+    ),
+    ("", "", 4),
+    ("08000000 01 0100", "", 4),
+];
+
+/// The first opening that is answered otherwise.
+fn wrong_opening(alloc: Global) -> Result<Option<&'static str>, Fail> {
+    for &(input, output, status) in &OPENINGS {
+        let output = bytes(alloc, output)?;
+        if !answers(
+            alloc,
+            bytes(alloc, input)?.as_slice(),
+            output.as_slice(),
+            status,
+        )? {
+            return Ok(Some(input));
+        }
     }
+    Ok(None)
+}
+
+#[test]
+fn only_the_spoken_version_is_accepted(rt: HostRuntime) -> Result<(), Fail> {
+    assert_eq!(rt; wrong_opening(rt.alloc())?, None);
+    Ok(())
+}
+
+/// What follows a hello and a put, and the status. Both are answered, and nothing else is.
+static ENDS: [(&str, u8); 6] = [
+    ("", 0),
+    // Inside a length, and inside a frame.
+    ("1400", 4),
+    ("14000000 E803", 4),
+    // Lengths out of range.
+    ("FFFFFFFF", 4),
+    ("09000000", 4),
+    ("01008000", 4),
+];
+
+/// The first end of a session that is answered otherwise.
+fn wrong_end(alloc: Global) -> Result<Option<&'static str>, Fail> {
+    for &(end, status) in &ENDS {
+        let mut client = Stream::client(alloc)?;
+        let mut server = Stream::server(alloc)?;
+        client.put(1, &int(1), &int(2))?;
+        server.done(1)?;
+        client.hex(end)?;
+        if !answers(
+            alloc,
+            client.bytes.as_slice(),
+            server.bytes.as_slice(),
+            status,
+        )? {
+            return Ok(Some(end));
+        }
+    }
+    Ok(None)
+}
+
+#[test]
+fn an_input_that_breaks_off_has_status_4(rt: HostRuntime) -> Result<(), Fail> {
+    assert_eq!(rt; wrong_end(rt.alloc())?, None);
     Ok(())
 }
 
@@ -210,155 +332,87 @@ static VALUES: [&str; 42] = [
     "02 6100",
 ];
 
-/// Appends a length.
-fn put_len(out: &mut Octets, len: usize) -> Result<(), NoMemory> {
-    put_i32(out, i32::try_from(len).unwrap_or(0))
-}
-
-/// Appends the frame of a request on the cache `main`, with these bytes behind its flags.
-fn put_request(out: &mut Octets, operation: i16, parts: &[&[u8]]) -> Result<(), NoMemory> {
-    let mut len: usize = 15;
-    for part in parts {
-        len = len.wrapping_add(part.len());
-    }
-    put_len(out, len)?;
-    put_i16(out, operation)?;
-    put_i64(out, 1)?;
-    put_i32(out, 3_343_801)?;
-    out.push(0)?;
-    for part in parts {
-        out.append(*part)?;
-    }
-    Ok(())
-}
-
-/// Appends the frame of a reply with these bytes behind its identifier.
-fn put_reply(out: &mut Octets, status: i32, parts: &[&[u8]]) -> Result<(), NoMemory> {
-    let mut len: usize = 12;
-    for part in parts {
-        len = len.wrapping_add(part.len());
-    }
-    put_len(out, len)?;
-    put_i64(out, 1)?;
-    put_i32(out, status)?;
-    for part in parts {
-        out.append(*part)?;
-    }
-    Ok(())
-}
-
-/// A session's input and the output that it must have, from the hello on.
-fn opened(alloc: Global) -> Result<(Octets, Octets), Fail> {
-    let input = bytes(alloc, &[HELLO])?;
-    let output = bytes(alloc, &[ACCEPTED])?;
-    Ok((Octets::new(input), Octets::new(output)))
-}
-
-/// Each value stands as a key with itself as the value, and comes back as it was stored.
+/// Each value stands as a key with itself as the value.
 #[test]
-fn values_come_back(rt: HostRuntime) -> Result<(), Fail> {
-    let (mut input, mut output) = opened(rt.alloc())?;
+fn values_come_back_as_they_were_stored(rt: HostRuntime) -> Result<(), Fail> {
+    let mut client = Stream::client(rt.alloc())?;
+    let mut server = Stream::server(rt.alloc())?;
     for text in &VALUES {
-        let value = bytes(rt.alloc(), &[*text])?;
-        put_request(&mut input, 1001, &[value.as_slice(), value.as_slice()])?;
-        put_reply(&mut output, 0, &[])?;
+        let value = bytes(rt.alloc(), text)?;
+        client.put(1, value.as_slice(), value.as_slice())?;
+        server.done(1)?;
     }
     for text in &VALUES {
-        let value = bytes(rt.alloc(), &[*text])?;
-        put_request(&mut input, 1000, &[value.as_slice()])?;
-        put_reply(&mut output, 0, &[value.as_slice()])?;
+        let value = bytes(rt.alloc(), text)?;
+        client.get(2, value.as_slice())?;
+        server.found(2, value.as_slice())?;
     }
-    let run = run_over(
-        rt.alloc(),
-        &["pipe", "main"],
-        input.as_slice(),
-        false,
-        Vec::new(rt.alloc()),
-    )?;
-    assert_eq!(rt; run.status, 0);
-    assert!(rt; run.sink.written() == Some(output.as_slice()));
-    Ok(())
+    check(&rt, &client, &server, 0)
 }
 
-/// Fields that don't read: what stands behind the operation and the identifier, and the text of the refusal.
-static MALFORMED: [(&str, &str); 16] = [
-    ("E803", "malformed request at 14"),
-    ("E803 B90533", "malformed request at 14"),
-    ("E803 B9053300", "malformed request at 18"),
-    ("E803 B9053300 00", "malformed request at 19"),
-    ("E803 B9053300 00 03 010000", "malformed request at 20"),
-    ("E803 B9053300 00 66", "malformed request at 19"),
-    ("E803 B9053300 00 67 01 0B00", "malformed request at 19"),
-    ("E803 B9053300 00 08 02", "malformed request at 20"),
-    ("E803 B9053300 00 09 FFFFFFFF", "malformed request at 20"),
-    ("E803 B9053300 00 0C FFFFFF7F 00", "malformed request at 25"),
-    ("E803 B9053300 00 09 01000000 FF", "malformed request at 24"),
-    ("E803 B9053300 00 65 65", "malformed request at 20"),
-    ("E903 B9053300 00", "malformed request at 19"),
-    ("E903 B9053300 00 65", "malformed request at 20"),
-    (
-        "E903 B9053300 00 65 18 01000000 01 66",
-        "malformed request at 26",
-    ),
-    ("E903 B9053300 00 65 65 00", "malformed request at 21"),
+/// Fields that don't read: the operation, what follows the identifier, and the offset in the frame at
+/// which they stop being fields.
+static MALFORMED: [(i16, &str, usize); 16] = [
+    (GET, "", 14),
+    (GET, "B90533", 14),
+    (GET, "B9053300", 18),
+    (GET, "B9053300 00", 19),
+    (GET, "B9053300 00 03 010000", 20),
+    (GET, "B9053300 00 66", 19),
+    (GET, "B9053300 00 67 01 0B00", 19),
+    (GET, "B9053300 00 08 02", 20),
+    (GET, "B9053300 00 09 FFFFFFFF", 20),
+    (GET, "B9053300 00 0C FFFFFF7F 00", 25),
+    (GET, "B9053300 00 09 01000000 FF", 24),
+    (GET, "B9053300 00 65 65", 20),
+    (PUT, "B9053300 00", 19),
+    (PUT, "B9053300 00 65", 20),
+    (PUT, "B9053300 00 65 18 01000000 01 66", 26),
+    (PUT, "B9053300 00 65 65 00", 21),
 ];
 
-/// Fields that don't read are refused at their place, and the session goes on.
 #[test]
-fn malformed_requests(rt: HostRuntime) -> Result<(), Fail> {
-    let (mut input, mut output) = opened(rt.alloc())?;
-    for (request, reason) in &MALFORMED {
-        let request = bytes(rt.alloc(), &[*request])?;
-        let (operation, fields) = request.as_slice().split_at(request.len().min(2));
-        put_len(&mut input, request.len().wrapping_add(8))?;
-        input.append(operation)?;
-        put_i64(&mut input, 1)?;
-        input.append(fields)?;
-        let mut text = Octets::empty(rt.alloc());
-        text.push(9)?;
-        put_len(&mut text, reason.len())?;
-        text.append(reason.as_bytes())?;
-        put_reply(&mut output, 1, &[text.as_slice()])?;
+fn malformed_fields_are_refused_at_their_offset(rt: HostRuntime) -> Result<(), Fail> {
+    let mut client = Stream::client(rt.alloc())?;
+    let mut server = Stream::server(rt.alloc())?;
+    for &(operation, fields, offset) in &MALFORMED {
+        let fields = bytes(rt.alloc(), fields)?;
+        client.request(operation, 1, fields.as_slice())?;
+        let reason = format!(in rt.alloc(); "malformed request at {offset}")?;
+        server.fault(1, 1, reason.as_str())?;
     }
-    let run = run_over(
-        rt.alloc(),
-        &["pipe", "main"],
-        input.as_slice(),
-        false,
-        Vec::new(rt.alloc()),
-    )?;
-    assert_eq!(rt; run.status, 0);
-    assert!(rt; run.sink.written() == Some(output.as_slice()));
-    Ok(())
+    check(&rt, &client, &server, 0)
 }
 
-/// The longest request: a text of 8,388,583 letters stands under 1 and comes back.
+/// A put of a text of 8,388,583 letters has a body of 8,388,608 bytes.
 #[test]
-fn longest_request(rt: HostRuntime) -> Result<(), Fail> {
-    let (mut input, mut output) = opened(rt.alloc())?;
+fn the_longest_request_is_answered(rt: HostRuntime) -> Result<(), Fail> {
     let mut text = Octets::empty(rt.alloc());
     text.push(9)?;
     put_i32(&mut text, 8_388_583)?;
     let letters = vec![in rt.alloc(); b'a'; 8_388_583]?;
     text.append(letters.as_slice())?;
-    let key = bytes(rt.alloc(), &["03 01000000"])?;
-    put_request(&mut input, 1001, &[key.as_slice(), text.as_slice()])?;
-    put_reply(&mut output, 0, &[])?;
-    put_request(&mut input, 1000, &[key.as_slice()])?;
-    put_reply(&mut output, 0, &[text.as_slice()])?;
-    let run = run_over(
-        rt.alloc(),
-        &["pipe", "main"],
-        input.as_slice(),
-        false,
-        Vec::new(rt.alloc()),
-    )?;
-    assert_eq!(rt; run.status, 0);
-    assert!(rt; run.sink.written() == Some(output.as_slice()));
-    Ok(())
+    let mut client = Stream::client(rt.alloc())?;
+    let mut server = Stream::server(rt.alloc())?;
+    client.put(1, &int(1), text.as_slice())?;
+    server.done(1)?;
+    client.get(2, &int(1))?;
+    server.found(2, text.as_slice())?;
+    check(&rt, &client, &server, 0)
 }
 
-/// How many bytes of the replies are due once this many bytes of the hello, the put and the get came.
+/// A hello, a put and a get, and the replies to them.
+fn short_session(alloc: Global) -> Result<(Octets, Octets), NoMemory> {
+    let mut client = Stream::client(alloc)?;
+    let mut server = Stream::server(alloc)?;
+    client.put(1, &int(1), &int(2))?;
+    server.done(1)?;
+    client.get(2, &int(1))?;
+    server.found(2, &int(2))?;
+    Ok((client.bytes, server.bytes))
+}
+
+/// How many bytes of the replies are due once this many bytes of the short session came.
 fn due(taken: usize) -> usize {
     match taken {
         0..12 => 0,
@@ -368,77 +422,71 @@ fn due(taken: usize) -> usize {
     }
 }
 
-/// The input is cut after every byte: it ends there, and it fails there.
 #[test]
-fn cut_after_every_byte(rt: HostRuntime) -> Result<(), Fail> {
-    let input = bytes(rt.alloc(), &[HELLO, PUT, GET])?;
-    let output = bytes(rt.alloc(), &[ACCEPTED, PUT_REPLY, GET_REPLY])?;
+fn an_input_cut_after_any_byte_has_all_due_replies(rt: HostRuntime) -> Result<(), Fail> {
+    let (input, output) = short_session(rt.alloc())?;
     for cut in 0..66usize {
-        let shown = output.get(..due(cut));
-        let taken = input.get(..cut).unwrap_or(&[]);
-        let ended = run_over(
-            rt.alloc(),
-            &["pipe", "main"],
-            taken,
-            false,
-            Vec::new(rt.alloc()),
-        )?;
+        let taken = input.as_slice().get(..cut).unwrap_or(&[]);
+        let shown = output.as_slice().get(..due(cut));
+        let words = &["pipe", "main"];
+        let ended = run_over(rt.alloc(), words, taken, false, Vec::new(rt.alloc()))?;
         let well = matches!(cut, 12 | 41 | 65);
         assert_eq!(rt; ended.status, if well { 0 } else { 4 });
         assert!(rt; ended.sink.written() == shown);
-        let failed = run_over(
-            rt.alloc(),
-            &["pipe", "main"],
-            taken,
-            true,
-            Vec::new(rt.alloc()),
-        )?;
+        let failed = run_over(rt.alloc(), words, taken, true, Vec::new(rt.alloc()))?;
         assert_eq!(rt; failed.status, 2);
         assert!(rt; failed.sink.written() == shown);
     }
     Ok(())
 }
 
-/// The sink takes one byte at a time and fails after every number of bytes.
+/// The sink takes one byte at a time and fails after each number of bytes in turn.
 #[test]
-fn sink_that_fails(rt: HostRuntime) -> Result<(), Fail> {
-    let input = bytes(rt.alloc(), &[HELLO, PUT, GET])?;
-    let output = bytes(rt.alloc(), &[ACCEPTED, PUT_REPLY, GET_REPLY])?;
+fn an_output_that_fails_has_the_first_bytes_of_the_replies(rt: HostRuntime) -> Result<(), Fail> {
+    let (input, output) = short_session(rt.alloc())?;
     for sent in 0..43usize {
-        let mut steps = Vec::new(rt.alloc());
+        let mut writes = Vec::new(rt.alloc());
         for _ in 0..sent {
-            steps.push(WriteStep::AtMost(1))?;
+            writes.push(WriteStep::AtMost(1))?;
         }
-        steps.push(WriteStep::Fault)?;
-        let run = run_over(rt.alloc(), &["pipe", "main"], &input, false, steps)?;
+        writes.push(WriteStep::Fault)?;
+        let run = run_over(
+            rt.alloc(),
+            &["pipe", "main"],
+            input.as_slice(),
+            false,
+            writes,
+        )?;
         assert_eq!(rt; run.status, if sent < 42 { 3 } else { 0 });
-        assert!(rt; run.sink.written() == output.get(..sent));
+        assert!(rt; run.sink.written() == output.as_slice().get(..sent));
     }
-    let steps = [WriteStep::AtMost(5), WriteStep::AtMost(2), WriteStep::Fault];
-    let steps = Vec::from_slice(rt.alloc(), &steps)?;
-    let run = run_over(rt.alloc(), &["pipe", "main"], &input, false, steps)?;
-    assert_eq!(rt; run.status, 3);
-    assert!(rt; run.sink.written() == output.get(..7));
     Ok(())
 }
 
-/// Words that are no command: nothing is read or written.
+/// Words that are no command.
+static OTHER_WORDS: [&[&str]; 9] = [
+    &[],
+    &["pipe"],
+    &["pipe", "main", "main"],
+    &["pipe", "-x"],
+    &["pipe", ""],
+    &["pipe", "n\u{E9}"],
+    &["mill", "01", "7"],
+    &["serve", "--nodes", "0", "main"],
+    &["Pipe", "main"],
+];
+
 #[test]
-fn usage(rt: HostRuntime) -> Result<(), Fail> {
-    let table: [&[&str]; 9] = [
-        &[],
-        &["pipe"],
-        &["pipe", "main", "main"],
-        &["pipe", "-x"],
-        &["pipe", ""],
-        &["pipe", "n\u{E9}"],
-        &["mill", "01", "7"],
-        &["serve", "--nodes", "0", "main"],
-        &["Pipe", "main"],
-    ];
-    let input = bytes(rt.alloc(), &[HELLO, PUT])?;
-    for words in &table {
-        let run = run_over(rt.alloc(), words, &input, false, Vec::new(rt.alloc()))?;
+fn other_words_read_and_write_nothing(rt: HostRuntime) -> Result<(), Fail> {
+    let (input, _) = short_session(rt.alloc())?;
+    for words in &OTHER_WORDS {
+        let run = run_over(
+            rt.alloc(),
+            words,
+            input.as_slice(),
+            false,
+            Vec::new(rt.alloc()),
+        )?;
         assert_eq!(rt; run.status, 1);
         assert!(rt; run.source.taken().is_empty());
         assert!(rt; run.sink.written() == Some(&[]));

@@ -1,4 +1,4 @@
-//! What the program is asked to do, by its words.
+//! What the program's words ask for.
 
 ghost use Rattle.std.specs.Prelude.{◌≡◌, nat_lt, map, string_bytes};
 ghost use Rattle.std.specs.List.{list_all};
@@ -23,7 +23,7 @@ fn is_cache_name(word: &str) -> bool
     is_ascii(bytes)
 }
 
-/// The cache that `pipe NAME` names, where the words are that.
+/// The name of the cache where the words are `pipe NAME`, and `None` where they aren't.
 pub fn pipe_words(words: &[String]) -> Option<&str>
     ensures { option_map (λ name. name.now) result ≡ pipe_name (map string_bytes words.now) }
 {

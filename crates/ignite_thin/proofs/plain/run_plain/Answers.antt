@@ -13,6 +13,6 @@ pub returns : goal.returns
 returns g c =
     let text = c.new.ensures ∙ c.in-Ok.ensures.ok in
     let start : kept c.start.result ≡ opened (c.in-Some.name.now ∷ []) = c.start.ensures ∙ ap (λ (n : List ℕ). opened (n ∷ [])) text in
-    named (map string_bytes c.args.words.now) c.in-Some.name.now _ _ _ _ c.status.result c.in-Some.ensures
-    (pipe_runs kept c.new-caller.result c.serve_ends.new.caller c.in-Some.name.now _ _ _ _ c.serve_ends.result c.status.result
-    (subst (λ (p : Plain). StandsAlone kept c.new-caller.result p []) start c.new-caller.ensures) c.serve_ends.ensures.served c.status.ensures)
+    named (map string_bytes c.args.words.now) c.in-Some.name.now _ _ _ _ c.end_status.result c.in-Some.ensures
+    (pipe_runs kept c.new-caller.result c.serve_ends.new.caller c.in-Some.name.now _ _ _ _ c.serve_ends.result c.end_status.result
+    (subst (λ (p : Plain). StandsAlone kept c.new-caller.result p []) start c.new-caller.ensures) c.serve_ends.ensures.served c.end_status.ensures)
