@@ -11,10 +11,10 @@ use Rattle.ig_value.specs.Table.{byte_of, content}
 use Rattle.ig_value.specs.Spells.{IsScalar, IsBoth, IsMany, IsRun, IsTextRun, IsCounted, SpellsPart}
 use Rattle.ig_value.specs.Stops.{StopsScalar, StopsBoth, StopsMany, StopsRun, StopsTextRun, StopsCounted, StopsPart}
 use Rattle.ig_value.specs.Reading.{Read, scalar_at, run_at, text_run_at, counted_at, both_at, many_at, part_at}
-use Rattle.ig_value.proofs.Agrees.{Agrees, both_agrees, many_agrees, seen_agrees, nothing_agrees}
-use Rattle.ig_value.proofs.Items.{optional_agrees}
-use Rattle.ig_value.proofs.Scalars.{scalar_agrees}
-use Rattle.ig_value.proofs.Counts.{counted_agrees, run_agrees, text_run_agrees}
+use Rattle.ig_value.proofs.AgreesLemmas.{Agrees, both_agrees, many_agrees, seen_agrees, nothing_agrees}
+use Rattle.ig_value.proofs.ItemLemmas.{optional_agrees}
+use Rattle.ig_value.proofs.ScalarLemmas.{scalar_agrees}
+use Rattle.ig_value.proofs.CountLemmas.{counted_agrees, run_agrees, text_run_agrees}
 
 -- no code but null's own stands for null
 abbrev pub IsProper : Part → Type 0

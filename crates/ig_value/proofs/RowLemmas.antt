@@ -1,4 +1,5 @@
--- Each row of the table: the value that is built has this code and content, and a value is built of its own.
+-- Each row of the table: the value that is built has this code and content, and a value is built of
+-- its own.
 use Rattle.std.proofs.Common.{◌≡◌, ◌≢◌, ℕ, Bool, true, false, cond, List, [], ◌∷◌, Option, Some, None, eqb, refl, sym, ap, ◌∙◌}
 use Rattle.std.specs.List.{find}
 use Rattle.std.proofs.lemmas.Bool.{eqb-true}
@@ -8,12 +9,12 @@ use Rattle.ig_value.specs.declared.value.Value.{Value, out-Value, roll-Value, ro
 use Rattle.ig_value.specs.declared.value.Value.TheVariants as value
 use Rattle.ig_value.specs.declared.value.Value.TheOpen.{Value-F}
 use Rattle.ig_value.specs.Part.{Content}
-use Rattle.ig_value.specs.Table.{byte_of, content, parts, build, codes, code_at}
+use Rattle.ig_value.specs.Table.{byte_of, content, parts, value_with, codes, code_at}
 
 abbrev pub Row : Type 0
 Row = (c : Code) × Content Value (content c)
 
-pub built : (c : Code) (x : Content Value (content c)) → parts (out-Value (build c x)) ≡ (c, x)
+pub built : (c : Code) (x : Content Value (content c)) → parts (out-Value (value_with c x)) ≡ (c, x)
 built code.Byte x = ap parts (value.outs-Byte x)
 built code.Short x = ap parts (value.outs-Short x)
 built code.Int x = ap parts (value.outs-Int x)
@@ -51,7 +52,7 @@ built code.Times x = ap parts (value.outs-Times x.1)
 built code.BinaryEnum x = ap parts (value.outs-BinaryEnum x.0 x.1)
 built code.Null x = ap parts value.outs-Null
 
-rolled : (x : Value-F Value) → build (parts x).0 (parts x).1 ≡ roll-Value x
+rolled : (x : Value-F Value) → value_with (parts x).0 (parts x).1 ≡ roll-Value x
 rolled (Value-F.Byte x) = sym (value.rolls-Byte x)
 rolled (Value-F.Short x) = sym (value.rolls-Short x)
 rolled (Value-F.Int x) = sym (value.rolls-Int x)
@@ -89,7 +90,7 @@ rolled (Value-F.Times xs) = sym (value.rolls-Times xs)
 rolled (Value-F.BinaryEnum x y) = sym (value.rolls-BinaryEnum x y)
 rolled Value-F.Null = sym value.rolls-Null
 
-pub rebuilt : (v : Value) → build (parts (out-Value v)).0 (parts (out-Value v)).1 ≡ v
+pub rebuilt : (v : Value) → value_with (parts (out-Value v)).0 (parts (out-Value v)).1 ≡ v
 rebuilt v = rolled (out-Value v) ∙ roll-out-Value v
 
 -- ---- the code of a byte

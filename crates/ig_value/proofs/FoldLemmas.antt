@@ -10,7 +10,7 @@ use Rattle.std.specs.Int.{w8, w32}
 use Rattle.ig_base.specs.Numbers.{LE}
 use Rattle.ig_value.specs.Table.{content, parts}
 use Rattle.ig_value.specs.Canon.{layer_bytes, Canon}
-use Rattle.ig_value.specs.Limits.{greatest, inside, Depth, part_nodes, Nodes}
+use Rattle.ig_value.specs.Limits.{greatest, children, Depth, part_nodes, Nodes}
 
 flat_map_mapped : {X : Type 0} (h : X → List ℕ) (xs : List X) → flat_map (λ b. b) (map h xs) ≡ flat_map h xs
 flat_map_mapped h [] = refl
@@ -50,14 +50,14 @@ doubles_mapped : {X : Type 0} (h : X → ℕ) (ps : List (X × X)) → flat_map 
 doubles_mapped h [] = refl
 doubles_mapped h (p ∷ ps) = ap (λ (l : List ℕ). h p.0 ∷ h p.1 ∷ l) (doubles_mapped h ps)
 
-inside_mapped : {X : Type 0} (h : X → ℕ) (x : Value-F X) → inside (map-Value X ℕ h x) ≡ map h (inside x)
-inside_mapped h (Value-F.Map kind ps) = doubles_mapped h ps
-inside_mapped h _ = refl
+children_mapped : {X : Type 0} (h : X → ℕ) (x : Value-F X) → children (map-Value X ℕ h x) ≡ map h (children x)
+children_mapped h (Value-F.Map kind ps) = doubles_mapped h ps
+children_mapped h _ = refl
 
 -- the depth of a value, by those of the values inside
-pub Depth_out : (v : Value) → Depth v ≡ suc (greatest (map Depth (inside (out-Value v))))
+pub Depth_out : (v : Value) → Depth v ≡ suc (greatest (map Depth (children (out-Value v))))
 unfolding Depth
-Depth_out v = fold_out-Value ℕ (λ x. suc (greatest (inside x))) v ∙ ap (λ (l : List ℕ). suc (greatest l)) (inside_mapped Depth (out-Value v))
+Depth_out v = fold_out-Value ℕ (λ x. suc (greatest (children x))) v ∙ ap (λ (l : List ℕ). suc (greatest l)) (children_mapped Depth (out-Value v))
 
 -- ---- nodes
 

@@ -6,14 +6,14 @@ use Rattle.ig_value.specs.declared.cause.Cause.{Cause}
 use Rattle.ig_value.specs.declared.cause.Cause.TheVariants as cause
 use Rattle.ig_value.specs.declared.code.Code.{Code}
 use Rattle.ig_value.specs.declared.value.Value.{Value, out-Value}
-use Rattle.ig_value.specs.Table.{byte_of, content, parts, build, code_at}
+use Rattle.ig_value.specs.Table.{byte_of, content, parts, value_with, code_at}
 use Rattle.ig_value.specs.Spells.{IsCoded, SpellsPart, SpellsTo}
-use Rattle.ig_value.specs.Stops.{IsCut, StopsPart, StopsTo}
+use Rattle.ig_value.specs.Stops.{IsTruncated, StopsPart, StopsTo}
 use Rattle.ig_value.specs.Reading.{Fault, part_at, content_at, known_at, value_at}
-use Rattle.ig_value.proofs.Agrees.{Agrees, Takes, Halts, Halted, bind_ok, bind_err, ok_is, err_is}
-use Rattle.ig_value.proofs.Items.{coded_takes, coded_halts}
-use Rattle.ig_value.proofs.Parts.{part_agrees, content_proper}
-use Rattle.ig_value.proofs.Rows.{Row, built, rebuilt, code_of_byte, code_again, no_code, code_unknown}
+use Rattle.ig_value.proofs.AgreesLemmas.{Agrees, Takes, Halts, Halted, bind_ok, bind_err, ok_is, err_is}
+use Rattle.ig_value.proofs.ItemLemmas.{coded_takes, coded_halts}
+use Rattle.ig_value.proofs.PartLemmas.{part_agrees, content_proper}
+use Rattle.ig_value.proofs.RowLemmas.{Row, built, rebuilt, code_of_byte, code_again, no_code, code_unknown}
 
 -- the content of a code at this many levels below
 abbrev content_agrees : (levels : ℕ) → Agrees (SpellsTo levels) (StopsTo levels) (value_at levels) → (c : Code) →
@@ -28,11 +28,11 @@ SpellsRow levels s r = IsCoded r.0 (SpellsPart (SpellsTo levels) (content r.0)) 
 level_known : (levels : ℕ) → Agrees (SpellsTo levels) (StopsTo levels) (value_at levels) → (c : Code) (s : List ℕ) (v : Value) (rest : List ℕ) →
     AreBytes (byte_of c ∷ s) → content_at (value_at levels) c s ≡ Ok (v, rest) → Takes (SpellsTo (suc levels)) (byte_of c ∷ s) v rest
 level_known levels p c s v rest bytes e =
-    let a = bind_ok (part_at (value_at levels) (content c) s) (λ x. Ok (build c x.0, x.1)) (v, rest) e in
+    let a = bind_ok (part_at (value_at levels) (content c) s) (λ x. Ok (value_with c x.0, x.1)) (v, rest) e in
     let t = coded_takes c (SpellsPart (SpellsTo levels) (content c)) (StopsPart (SpellsTo levels) (StopsTo levels) (content c)) (part_at (value_at levels) (content c)) (content_agrees levels p c) s a.0.0 a.0.1 bytes a.1 in
-    let made : Value × List ℕ = (build c a.0.0, a.0.1) in
+    let made : Value × List ℕ = (value_with c a.0.0, a.0.1) in
     let all : Takes (SpellsTo (suc levels)) (byte_of c ∷ s) made.0 made.1 =
-    record { front = t.front; whole = t.whole; right = subst (λ (r : Row). SpellsRow levels t.front r) (sym (built c a.0.0)) t.right } in
+    record { prefix = t.prefix; whole = t.whole; right = subst (λ (r : Row). SpellsRow levels t.prefix r) (sym (built c a.0.0)) t.right } in
     subst (λ (z : Value × List ℕ). Takes (SpellsTo (suc levels)) (byte_of c ∷ s) z.0 z.1) (ok_is made (v, rest) a.2) all
 
 level_takes : (levels : ℕ) → Agrees (SpellsTo levels) (StopsTo levels) (value_at levels) → (b : ℕ) (s : List ℕ) (v : Value) (rest : List ℕ) → AreBytes (b ∷ s) → (o : Option Code) → code_at b ≡ o →
@@ -54,7 +54,7 @@ level_halts levels p b s left why bytes None is e =
     }
 level_halts levels p b s left why bytes (Some c) is e =
     let same = code_of_byte b c is in
-    elim (bind_err (part_at (value_at levels) (content c) s) (λ x. Ok (build c x.0, x.1)) (left, why) e) [
+    elim (bind_err (part_at (value_at levels) (content c) s) (λ x. Ok (value_with c x.0, x.1)) (left, why) e) [
       | inl inner ↦
           let h = coded_halts c (SpellsPart (SpellsTo levels) (content c)) (StopsPart (SpellsTo levels) (StopsTo levels) (content c)) (part_at (value_at levels) (content c)) (content_agrees levels p c) s left why
           (subst (λ (n : ℕ). AreBytes (n ∷ s)) (sym same) bytes) inner in
@@ -66,9 +66,9 @@ level_halts levels p b s left why bytes (Some c) is e =
 level_again : (levels : ℕ) → Agrees (SpellsTo levels) (StopsTo levels) (value_at levels) → (s : List ℕ) (v : Value) (rest : List ℕ) → SpellsTo (suc levels) s v → value_at (suc levels) (s ++ rest) ≡ Ok (v, rest)
 level_again levels p s v rest h =
     let r = parts (out-Value v) in
-    let inner : part_at (value_at levels) (content r.0) (h.back ++ rest) ≡ Ok (r.1, rest) = (content_agrees levels p r.0).again h.back r.1 rest h.behind in
-    let e : s ++ rest ≡ byte_of r.0 ∷ (h.back ++ rest) = ap (λ (l : List ℕ). l ++ rest) h.whole in
-    let is : value_at (suc levels) (s ++ rest) ≡ content_at (value_at levels) r.0 (h.back ++ rest) = rw (e, code_again r.0) refl in
+    let inner : part_at (value_at levels) (content r.0) (h.suffix ++ rest) ≡ Ok (r.1, rest) = (content_agrees levels p r.0).again h.suffix r.1 rest h.after in
+    let e : s ++ rest ≡ byte_of r.0 ∷ (h.suffix ++ rest) = ap (λ (l : List ℕ). l ++ rest) h.whole in
+    let is : value_at (suc levels) (s ++ rest) ≡ content_at (value_at levels) r.0 (h.suffix ++ rest) = rw (e, code_again r.0) refl in
     is ∙ rw inner (ap (λ (w : Value). Ok (w, rest)) (rebuilt v))
 
 level_halted : (levels : ℕ) → Agrees (SpellsTo levels) (StopsTo levels) (value_at levels) → (s : List ℕ) (at : ℕ) (why : Cause) → StopsTo (suc levels) s at why → Halted (value_at (suc levels)) s at why
@@ -80,12 +80,12 @@ level_halted levels p s at why (inr (inl w)) =
     record { left = suc (length w.rest); there = rw w.whole (omega (arith, w.here)); is = rw (w.whole, w.cause) is }
 level_halted levels p s at why (inr (inr w)) =
     let i = w.inside in
-    let h = (content_agrees levels p w.code).halted i.back i.further why i.wrong in
+    let h = (content_agrees levels p w.code).halted i.suffix i.further why i.wrong in
     record { left = h.left; there = rw i.whole (omega (arith, h.there, i.there)); is = rw (i.whole, code_again w.code, h.is) refl }
 
 -- ---- all levels
 
-short_halts : (levels : ℕ) (W : List ℕ → ℕ → Cause → Type 0) → ((at : ℕ) (c : Cause) → IsCut 1 [] at c → W [] at c) → (left : ℕ) (c : Cause) → value_at levels [] ≡ Err (left, c) → Halts W [] left c
+short_halts : (levels : ℕ) (W : List ℕ → ℕ → Cause → Type 0) → ((at : ℕ) (c : Cause) → IsTruncated 1 [] at c → W [] at c) → (left : ℕ) (c : Cause) → value_at levels [] ≡ Err (left, c) → Halts W [] left c
 short_halts levels W cut left c e =
     let f = err_is {A = Value × List ℕ} (0, cause.Short) (left, c) e in
     record { at = 0; there = omega (arith, ap (λ (z : Fault). z.0) f); wrong = cut 0 c (record { short = omega arith; here = refl; cause = sym (ap (λ (z : Fault). z.1) f) }) }

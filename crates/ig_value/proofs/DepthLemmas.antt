@@ -1,11 +1,12 @@
--- The greatest of the numbers that a list's items have, and the depths of the variants that hold values.
+-- The greatest of the numbers that a list's items have, and the depths of the variants that hold
+-- values.
 use Rattle.std.proofs.Common.{◌≡◌, ℕ, zero, suc, ◌<◌, ◌≤◌, max, List, [], ◌∷◌, map, length, take, get_or, refl, sym, ap, ◌∙◌, arith}
 use Rattle.std.specs.List.{flat_map}
 use Rattle.ig_value.specs.declared.value.Value.{Value, out-Value, roll-Value, roll-out-Value}
 use Rattle.ig_value.specs.declared.value.Value.TheVariants as value
 use Rattle.ig_value.specs.declared.value.Value.TheOpen.{Value-F}
-use Rattle.ig_value.specs.Limits.{greatest, inside, Depth, pair_depth}
-use Rattle.ig_value.proofs.Folds.{Depth_out}
+use Rattle.ig_value.specs.Limits.{greatest, children, Depth, pair_depth}
+use Rattle.ig_value.proofs.FoldLemmas.{Depth_out}
 
 pub greatest_item : {X : Type 0} (f : X → ℕ) (xs : List X) (i : ℕ) (d : X) → i < length xs → f (get_or xs i d) ≤ greatest (map f xs)
 greatest_item f [] i d lt = absurd (omega arith)
@@ -21,8 +22,8 @@ pairs_greatest : (ps : List (Value × Value)) → greatest (map Depth (flat_map 
 pairs_greatest [] = refl
 pairs_greatest (p ∷ ps) = omega (arith, pairs_greatest ps)
 
-Depth_row : (v : Value) (x : Value-F Value) → out-Value v ≡ x → Depth v ≡ suc (greatest (map Depth (inside x)))
-Depth_row v x e = Depth_out v ∙ ap (λ (y : Value-F Value). suc (greatest (map Depth (inside y)))) e
+Depth_row : (v : Value) (x : Value-F Value) → out-Value v ≡ x → Depth v ≡ suc (greatest (map Depth (children x)))
+Depth_row v x e = Depth_out v ∙ ap (λ (y : Value-F Value). suc (greatest (map Depth (children y)))) e
 
 pub Depth_objects : (v : Value) (type : _) (xs : List Value) → v ≡ value.Objects type xs → Depth v ≡ suc (greatest (map Depth xs))
 Depth_objects v type xs e = Depth_row v _ (ap out-Value e ∙ value.outs-Objects type xs)
@@ -37,7 +38,7 @@ pub Depth_map : (v : Value) (kind : _) (ps : List (Value × Value)) → v ≡ va
 Depth_map v kind ps e = Depth_row v _ (ap out-Value e ∙ value.outs-Map kind ps) ∙ ap suc (pairs_greatest ps)
 
 default_at : (v : Value) (x : Value-F Value) → out-Value v ≡ x → ((type : _) (xs : List Value) → v ≡ value.Objects type xs → ⊥) → ((kind : _) (xs : List Value) → v ≡ value.Collection kind xs → ⊥) →
-    ((kind : _) (ps : List (Value × Value)) → v ≡ value.Map kind ps → ⊥) → ((type : _) (xs : List Value) → v ≡ value.Enums type xs → ⊥) → inside x ≡ []
+    ((kind : _) (ps : List (Value × Value)) → v ≡ value.Map kind ps → ⊥) → ((type : _) (xs : List Value) → v ≡ value.Enums type xs → ⊥) → children x ≡ []
 default_at v (Value-F.Objects type xs) e a b c d = absurd (a type xs (sym (roll-out-Value v) ∙ ap roll-Value e ∙ value.rolls-Objects type xs))
 default_at v (Value-F.Collection kind xs) e a b c d = absurd (b kind xs (sym (roll-out-Value v) ∙ ap roll-Value e ∙ value.rolls-Collection kind xs))
 default_at v (Value-F.Map kind ps) e a b c d = absurd (c kind ps (sym (roll-out-Value v) ∙ ap roll-Value e ∙ value.rolls-Map kind ps))

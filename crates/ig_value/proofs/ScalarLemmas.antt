@@ -12,15 +12,15 @@ use Rattle.ig_value.specs.declared.cause.Cause.{Cause}
 use Rattle.ig_value.specs.declared.cause.Cause.TheVariants as cause
 use Rattle.ig_value.specs.Part.{Scalar, i8, i16, i32, i64, u16, u32, u64, truth}
 use Rattle.ig_value.specs.Spells.{IsScalar, scalar_bytes}
-use Rattle.ig_value.specs.Stops.{IsCut, StopsScalar, scalar_len}
+use Rattle.ig_value.specs.Stops.{IsTruncated, StopsScalar, scalar_len}
 use Rattle.ig_value.specs.Reading.{scalar_of, scalar_at, truth_of}
-use Rattle.ig_value.proofs.Agrees.{Agrees}
-use Rattle.ig_value.proofs.Items.{IsItem, item_agrees}
+use Rattle.ig_value.proofs.AgreesLemmas.{Agrees}
+use Rattle.ig_value.proofs.ItemLemmas.{IsItem, item_agrees}
 
 -- a width whose numbers are its bytes
 record IsWide (w : Width) : Type 0 where
   pub len : (n : ℕ) → length (to_le_bytes w n) ≡ byte_len w
-  pub back : (s : List ℕ) → length s ≡ byte_len w → AreBytes s → to_le_bytes w (from_le_bytes w s) ≡ s
+  pub suffix : (s : List ℕ) → length s ≡ byte_len w → AreBytes s → to_le_bytes w (from_le_bytes w s) ≡ s
   pub again : (n : ℕ) → n < 2 ^ bits w → from_le_bytes w (to_le_bytes w n) ≡ n
   pub below : (s : List ℕ) → AreBytes s → from_le_bytes w s < 2 ^ bits w
 
@@ -32,7 +32,7 @@ one_byte (x ∷ y ∷ s) len bytes = absurd (omega (arith, len))
 wide8 : IsWide w8
 wide8 = record {
   len = λ n. refl;
-  back = λ s len bytes. one_byte s len bytes;
+  suffix = λ s len bytes. one_byte s len bytes;
   again = λ n lt. omega arith;
   below = λ s bytes. omega (arith, bytes 0);
 }
@@ -40,7 +40,7 @@ wide8 = record {
 wide16 : IsWide w16
 wide16 = record {
   len = λ n. refl;
-  back = λ s len bytes. le_bytes_2 s _ len bytes refl;
+  suffix = λ s len bytes. le_bytes_2 s _ len bytes refl;
   again = λ n lt. from_le_bytes-to_le_bytes_2 n lt;
   below = λ s bytes. omega (arith, bytes 0, bytes 1);
 }
@@ -48,7 +48,7 @@ wide16 = record {
 wide32 : IsWide w32
 wide32 = record {
   len = λ n. refl;
-  back = λ s len bytes. le_bytes_4 s _ len bytes refl;
+  suffix = λ s len bytes. le_bytes_4 s _ len bytes refl;
   again = λ n lt. from_le_bytes-to_le_bytes_4 n lt;
   below = λ s bytes. omega (arith, bytes 0, bytes 1, bytes 2, bytes 3);
 }
@@ -56,7 +56,7 @@ wide32 = record {
 wide64 : IsWide w64
 wide64 = record {
   len = λ n. refl;
-  back = λ s len bytes. le_bytes_8 s _ len bytes refl;
+  suffix = λ s len bytes. le_bytes_8 s _ len bytes refl;
   again = λ n lt. from_le_bytes-to_le_bytes_8 n lt;
   below = λ s bytes. omega (arith, bytes 0, bytes 1, bytes 2, bytes 3, bytes 4, bytes 5, bytes 6, bytes 7);
 }
@@ -73,7 +73,7 @@ yes_is x y e = cc
 pub record IsNumber {A : Type 0} (n : ℕ) (of : List ℕ → A) (bytes : A → List ℕ) (Ranges : A → Type 0) : Type 0 where
   pub len : (x : A) → length (bytes x) ≡ n
   pub right : (s : List ℕ) → length s ≡ n → AreBytes s → Ranges (of s) × (s ≡ bytes (of s))
-  pub back : (x : A) → Ranges x → of (bytes x) ≡ x
+  pub suffix : (x : A) → Ranges x → of (bytes x) ≡ x
 
 signed_number : (w : Width) → IsWide w → IsNumber (byte_len w) (λ s. cast_signed w (from_le_bytes w s)) (LE w) (FitsSigned w)
 unfolding LE
@@ -81,26 +81,26 @@ signed_number w wide = record {
   len = λ z. wide.len (cast_unsigned w z);
   right = λ s len bytes.
       let fits : Fits w (from_le_bytes w s) = Fits-of_lt (wide.below s bytes) in
-      (sfits_to_z fits, sym (wide.back s len bytes) ∙ ap (to_le_bytes w) (sym (of_z-to_z fits)));
-  back = λ z fits. ap (cast_signed w) (wide.again (cast_unsigned w z) (Fits-lt-pow (Fits-of_z fits))) ∙ to_z-of_z fits;
+      (sfits_to_z fits, sym (wide.suffix s len bytes) ∙ ap (to_le_bytes w) (sym (of_z-to_z fits)));
+  suffix = λ z fits. ap (cast_signed w) (wide.again (cast_unsigned w z) (Fits-lt-pow (Fits-of_z fits))) ∙ to_z-of_z fits;
 }
 
 unsigned_number : (w : Width) → IsWide w → IsNumber (byte_len w) (from_le_bytes w) (λ n. LE w (pos n)) (λ n. n < 2 ^ bits w)
 unfolding LE
 unsigned_number w wide = record {
   len = λ n. wide.len n;
-  right = λ s len bytes. (wide.below s bytes, sym (wide.back s len bytes));
-  back = λ n lt. wide.again n lt;
+  right = λ s len bytes. (wide.below s bytes, sym (wide.suffix s len bytes));
+  suffix = λ n lt. wide.again n lt;
 }
 
 number_item : {A : Type 0} (n : ℕ) (of : List ℕ → A) (bytes : A → List ℕ) (Ranges : A → Type 0) → IsNumber n of bytes Ranges →
-    IsItem n (λ s. Ok (of s)) (λ s x. Ranges x × (s ≡ bytes x)) (IsCut n)
+    IsItem n (λ s. Ok (of s)) (λ s x. Ranges x × (s ≡ bytes x)) (IsTruncated n)
 number_item {A} n of bytes Ranges p = record {
   right = λ s x len all e. subst (λ (y : A). Ranges y × (s ≡ bytes y)) (yes_is (of s) x e) (p.right s len all);
-  again = λ s x h. (ap length h.1 ∙ p.len x, ap (λ (l : List ℕ). yes (of l)) h.1 ∙ ap yes (p.back x h.0));
+  again = λ s x h. (ap length h.1 ∙ p.len x, ap (λ (l : List ℕ). yes (of l)) h.1 ∙ ap yes (p.suffix x h.0));
   cut = λ s lt. record { short = lt; here = refl; cause = refl };
   bad = λ s c le e. absurd (let no : yes (of (take n s)) ≡ Err c = e in cc);
-  back = λ s at c w. (w.here, inl (w.short, w.cause));
+  suffix = λ s at c w. (w.here, inl (w.short, w.cause));
 }
 
 -- a byte is 0, 1 or no truth value
@@ -148,7 +148,7 @@ truth_item = record {
   again = truth_again;
   cut = λ s lt. inl (record { short = lt; here = refl; cause = refl });
   bad = truth_bad;
-  back = truth_back;
+  suffix = truth_back;
 }
 
 scalar_item : (k : Scalar) → IsItem (scalar_len k) (scalar_of k) (IsScalar k) (StopsScalar k)

@@ -9,11 +9,11 @@ use Rattle.ig_value.specs.declared.cause.Cause.{Cause}
 use Rattle.ig_value.specs.declared.cause.Cause.TheVariants as cause
 use Rattle.ig_value.specs.Part.{i32}
 use Rattle.ig_value.specs.Spells.{IsScalar, IsCounted, IsRun, IsTextRun}
-use Rattle.ig_value.specs.Stops.{IsCut, IsNegative, StopsCounted, StopsRun, StopsTextRun}
+use Rattle.ig_value.specs.Stops.{IsTruncated, IsNegative, StopsCounted, StopsRun, StopsTextRun}
 use Rattle.ig_value.specs.Reading.{Fault, Read, ◌>>=◌, scalar_at, count_at, count_of, counted_at, run_of, text_of, run_at, text_run_at}
-use Rattle.ig_value.proofs.Agrees.{Agrees, Takes, Halts, Halted, AreBytes-back, bind_ok, bind_err, ok_is, err_is}
-use Rattle.ig_value.proofs.Items.{IsItem, item_agrees}
-use Rattle.ig_value.proofs.Scalars.{scalar_agrees}
+use Rattle.ig_value.proofs.AgreesLemmas.{Agrees, Takes, Halts, Halted, AreBytes-suffix, bind_ok, bind_err, ok_is, err_is}
+use Rattle.ig_value.proofs.ItemLemmas.{IsItem, item_agrees}
+use Rattle.ig_value.proofs.ScalarLemmas.{scalar_agrees}
 
 -- ---- the count
 
@@ -40,12 +40,12 @@ count_again n rest lt =
     let right : IsScalar i32 (LE w32 (pos n)) (pos n) = (record { sfits = lt }, refl) in
     rw ((scalar_agrees i32).again (LE w32 (pos n)) (pos n) rest right) refl
 
-count_halts : (s : List ℕ) (left : ℕ) (c : Cause) → AreBytes s → count_at s ≡ Err (left, c) → (left ≡ length s) × (IsCut 4 s 0 c ⊎ IsNegative s 0 c)
+count_halts : (s : List ℕ) (left : ℕ) (c : Cause) → AreBytes s → count_at s ≡ Err (left, c) → (left ≡ length s) × (IsTruncated 4 s 0 c ⊎ IsNegative s 0 c)
 count_halts s left c bytes e =
     elim (bind_err (scalar_at i32 s) (count_of (length s)) (left, c) e) [
       | inl first ↦
           let h = (scalar_agrees i32).halts s left c bytes first in
-          let w : IsCut 4 s h.at c = h.wrong in
+          let w : IsTruncated 4 s h.at c = h.wrong in
           (omega (arith, h.there, w.here), inl (record { short = w.short; here = refl; cause = w.cause }))
       | inr a ↦
           let k = count_err (length s) a.0.0 a.0.1 left c a.2 in
@@ -55,7 +55,7 @@ count_halts s left c bytes e =
           (sym k.0, inr (record { below = m; rest = a.0.1; fits = fits; whole = t.whole ∙ ap (λ (l : List ℕ). l ++ a.0.1) (t.right.1 ∙ ap (LE w32) k.1.1); here = refl; cause = k.1.2 }))
     ]
 
-count_cut : (s : List ℕ) (at : ℕ) (c : Cause) → IsCut 4 s at c → count_at s ≡ Err (length s, c)
+count_cut : (s : List ℕ) (at : ℕ) (c : Cause) → IsTruncated 4 s at c → count_at s ≡ Err (length s, c)
 count_cut s at c w =
     let h = (scalar_agrees i32).halted s at c w in
     let left-is : h.left ≡ length s = omega (arith, h.there, w.here) in
@@ -78,19 +78,19 @@ counted_takes : {A : Type 0} (P : ℕ → List ℕ → A → Type 0) (W : ℕ �
 counted_takes P W R p s x rest bytes e =
     let a = bind_ok (count_at s) (λ n. R n.0 n.1) (x, rest) e in
     let k = count_takes s a.0.0 a.0.1 bytes a.1 in
-    let t = (p a.0.0).takes a.0.1 x rest (AreBytes-back s (LE w32 (pos a.0.0)) a.0.1 k.1 bytes) a.2 in
+    let t = (p a.0.0).takes a.0.1 x rest (AreBytes-suffix s (LE w32 (pos a.0.0)) a.0.1 k.1 bytes) a.2 in
     record {
-      front = LE w32 (pos a.0.0) ++ t.front;
-      whole = k.1 ∙ ap (λ (l : List ℕ). LE w32 (pos a.0.0) ++ l) t.whole ∙ sym (append_assoc (LE w32 (pos a.0.0)) t.front rest);
-      right = record { count = a.0.0; back = t.front; small = k.0; whole = refl; behind = t.right };
+      prefix = LE w32 (pos a.0.0) ++ t.prefix;
+      whole = k.1 ∙ ap (λ (l : List ℕ). LE w32 (pos a.0.0) ++ l) t.whole ∙ sym (append_assoc (LE w32 (pos a.0.0)) t.prefix rest);
+      right = record { count = a.0.0; suffix = t.prefix; small = k.0; whole = refl; after = t.right };
     }
 
 counted_again : {A : Type 0} (P : ℕ → List ℕ → A → Type 0) (W : ℕ → List ℕ → ℕ → Cause → Type 0) (R : ℕ → List ℕ → Read A) → ((n : ℕ) → Agrees (P n) (W n) (R n)) →
     (s : List ℕ) (x : A) (rest : List ℕ) → IsCounted P s x → counted_at R (s ++ rest) ≡ Ok (x, rest)
 counted_again P W R p s x rest h =
-    let e : s ++ rest ≡ LE w32 (pos h.count) ++ (h.back ++ rest) = ap (λ (l : List ℕ). l ++ rest) h.whole ∙ append_assoc (LE w32 (pos h.count)) h.back rest in
-    let first : count_at (s ++ rest) ≡ Ok (h.count, h.back ++ rest) = ap count_at e ∙ count_again h.count (h.back ++ rest) h.small in
-    ap (λ (r : Read ℕ). r >>= λ n. R n.0 n.1) first ∙ (p h.count).again h.back x rest h.behind
+    let e : s ++ rest ≡ LE w32 (pos h.count) ++ (h.suffix ++ rest) = ap (λ (l : List ℕ). l ++ rest) h.whole ∙ append_assoc (LE w32 (pos h.count)) h.suffix rest in
+    let first : count_at (s ++ rest) ≡ Ok (h.count, h.suffix ++ rest) = ap count_at e ∙ count_again h.count (h.suffix ++ rest) h.small in
+    ap (λ (r : Read ℕ). r >>= λ n. R n.0 n.1) first ∙ (p h.count).again h.suffix x rest h.after
 
 counted_halts : {A : Type 0} (P : ℕ → List ℕ → A → Type 0) (W : ℕ → List ℕ → ℕ → Cause → Type 0) (R : ℕ → List ℕ → Read A) → ((n : ℕ) → Agrees (P n) (W n) (R n)) →
     (s : List ℕ) (left : ℕ) (c : Cause) → AreBytes s → counted_at R s ≡ Err (left, c) → Halts (StopsCounted W) s left c
@@ -105,11 +105,11 @@ counted_halts P W R p s left c bytes e =
           ]
       | inr a ↦
           let k = count_takes s a.0.0 a.0.1 bytes a.1 in
-          let h = (p a.0.0).halts a.0.1 left c (AreBytes-back s (LE w32 (pos a.0.0)) a.0.1 k.1 bytes) a.2 in
+          let h = (p a.0.0).halts a.0.1 left c (AreBytes-suffix s (LE w32 (pos a.0.0)) a.0.1 k.1 bytes) a.2 in
           record {
             at = 4 + h.at;
             there = omega (arith, h.there, ap length k.1, length-append (LE w32 (pos a.0.0)) a.0.1, LE-length (pos a.0.0));
-            wrong = inr (inr (record { count = a.0.0; back = a.0.1; further = h.at; small = k.0; whole = k.1; wrong = h.wrong; there = refl }));
+            wrong = inr (inr (record { count = a.0.0; suffix = a.0.1; further = h.at; small = k.0; whole = k.1; wrong = h.wrong; there = refl }));
           }
     ]
 
@@ -120,11 +120,11 @@ counted_halted P W R p s at c (inl cut) =
 counted_halted P W R p s at c (inr (inl negative)) =
     record { left = length s; there = omega (arith, negative.here); is = ap (λ (r : Read ℕ). r >>= λ n. R n.0 n.1) (count_negative s at c negative) }
 counted_halted P W R p s at c (inr (inr w)) =
-    let h = (p w.count).halted w.back w.further c w.wrong in
-    let first : count_at s ≡ Ok (w.count, w.back) = ap count_at w.whole ∙ count_again w.count w.back w.small in
+    let h = (p w.count).halted w.suffix w.further c w.wrong in
+    let first : count_at s ≡ Ok (w.count, w.suffix) = ap count_at w.whole ∙ count_again w.count w.suffix w.small in
     record {
       left = h.left;
-      there = omega (arith, h.there, w.there, ap length w.whole, length-append (LE w32 (pos w.count)) w.back, LE-length (pos w.count));
+      there = omega (arith, h.there, w.there, ap length w.whole, length-append (LE w32 (pos w.count)) w.suffix, LE-length (pos w.count));
       is = ap (λ (r : Read ℕ). r >>= λ n. R n.0 n.1) first ∙ h.is;
     }
 
@@ -145,7 +145,7 @@ run_item n = record {
   again = λ s x h. (ap length h.0 ∙ h.2, ap run_of h.0);
   cut = λ s lt. record { short = lt; here = refl; cause = refl };
   bad = λ s c le e. absurd (let no : run_of (take n s) ≡ Err c = e in cc);
-  back = λ s at c w. (w.here, inl (w.short, w.cause));
+  suffix = λ s at c w. (w.here, inl (w.short, w.cause));
 }
 
 pub run_agrees : (n : ℕ) → Agrees (IsRun n) (StopsRun n) (run_at n)
@@ -175,7 +175,7 @@ text_item n = record {
   again = λ s x h. (ap length h.0.0 ∙ h.0.2, ap text_of h.0.0 ∙ text_again x h.1);
   cut = λ s lt. inl (record { short = lt; here = refl; cause = refl });
   bad = λ s c le e. let t = text_err (take n s) c (is_utf8 (take n s)) refl e in inr (record { whole = le; wrong = t.1; here = refl; cause = t.0 });
-  back = λ s at c w.
+  suffix = λ s at c w.
       elim w [
         | inl cut ↦ (cut.here, inl (cut.short, cut.cause))
         | inr other ↦ (other.here, inr (other.whole, rw other.cause (text_bad (take n s) (is_utf8 (take n s)) refl other.wrong)))
