@@ -4,10 +4,10 @@ use Rattle.std.proofs.lemmas.List.{append-nil}
 use Rattle.std.proofs.Math.Nat.{mul-le-mul_right, div-mul-le_self, div-add-mod, mod-lt}
 use Rattle.ig_value.specs.declared.cause.Cause.{Cause}
 use Rattle.ig_value.specs.Reading.{Read, ◌>>=◌, item_at, many_at}
-use Rattle.ig_value.proofs.Items.{item_whole}
+use Rattle.ig_value.proofs.ItemLemmas.{item_whole}
 use Rattle.ig_decode.specs.declared.fault.ReadError.{ReadError}
 use Rattle.ig_decode.specs.declared.fault.ReadError.TheVariants as error
-use Rattle.ig_decode.specs.Gives.{Fails}
+use Rattle.ig_decode.specs.ReaderAnswers.{Fails}
 
 -- what was read before, and what is still read
 abbrev pub with_front : {A : Type 0} → List A → Read (List A) → Read (List A)
@@ -17,26 +17,35 @@ regroup : {A : Type 0} (front : List A) (x : A) (read : Read (List A)) → with_
 regroup {A} front x (Ok xs) = ap (λ (l : List A). Ok (l, xs.1)) (simp append_assoc)
 regroup front x (Err f) = refl
 
+-- one more item was read, of those that are left
+pub one_read : {A : Type 0} (one : List ℕ → Read A) (front : List A) (left left' : ℕ) (bytes : List ℕ) (x : A) (after : List ℕ) (total : Read (List A)) → left ≡ suc left' → one bytes ≡ Ok (x, after)
+    → with_front front (many_at one left bytes) ≡ total → with_front (front ++ x ∷ []) (many_at one left' after) ≡ total
+one_read one front left left' bytes x after total k h so_far =
+    let step : with_front front (many_at one left bytes) ≡ with_front (front ++ x ∷ []) (many_at one left' after) = rw (k, h) (regroup front x (many_at one left' after)) in
+    sym step ∙ so_far
+
+-- one of those that are left could not be read
+pub one_failed : {A : Type 0} (one : List ℕ → Read A) (e : ReadError) (front : List A) (left left' : ℕ) (bytes : List ℕ) (total : Read (List A)) → left ≡ suc left' → Fails e (one bytes)
+    → with_front front (many_at one left bytes) ≡ total → Fails e total
+one_failed one error.NoMemory front left left' bytes total k h so_far = tt
+one_failed one (error.Fault rest c) front left left' bytes total k h so_far =
+    let step : with_front front (many_at one left bytes) ≡ Err (rest, c) = rw (k, h) refl in
+    sym so_far ∙ step
+
+-- none is left
+pub all_read : {A : Type 0} (one : List ℕ → Read A) (front : List A) (left : ℕ) (bytes : List ℕ) (total : Read (List A)) → left ≡ 0 → with_front front (many_at one left bytes) ≡ total → total ≡ Ok (front, bytes)
+all_read {A} one front left bytes total k so_far =
+    let step : with_front front (many_at one left bytes) ≡ Ok (front, bytes) = rw k (ap (λ (l : List A). Ok (l, bytes)) (append-nil front)) in
+    sym so_far ∙ step
+
+-- the same of a loop that counts up to the number of items
 pub goes_on : {A : Type 0} (one : List ℕ → Read A) (front : List A) (count i : ℕ) (bytes : List ℕ) (x : A) (after : List ℕ) (total : Read (List A)) → i < count → one bytes ≡ Ok (x, after)
     → with_front front (many_at one (count - i) bytes) ≡ total → with_front (front ++ x ∷ []) (many_at one (count - (i + 1)) after) ≡ total
-goes_on one front count i bytes x after total lt h so_far =
-    let k : count - i ≡ suc (count - (i + 1)) = omega arith in
-    let step : with_front front (many_at one (count - i) bytes) ≡ with_front (front ++ x ∷ []) (many_at one (count - (i + 1)) after) = rw (k, h) (regroup front x (many_at one (count - (i + 1)) after)) in
-    sym step ∙ so_far
+goes_on one front count i bytes x after total lt h so_far = one_read one front (count - i) (count - (i + 1)) bytes x after total (omega arith) h so_far
 
 pub ends : {A : Type 0} (one : List ℕ → Read A) (e : ReadError) (front : List A) (count i : ℕ) (bytes : List ℕ) (total : Read (List A)) → i < count → Fails e (one bytes)
     → with_front front (many_at one (count - i) bytes) ≡ total → Fails e total
-ends one error.NoMemory front count i bytes total lt h so_far = tt
-ends one (error.Fault left c) front count i bytes total lt h so_far =
-    let k : count - i ≡ suc (count - (i + 1)) = omega arith in
-    let step : with_front front (many_at one (count - i) bytes) ≡ Err (left, c) = rw (k, h) refl in
-    sym so_far ∙ step
-
-pub is_done : {A : Type 0} (one : List ℕ → Read A) (front : List A) (count i : ℕ) (bytes : List ℕ) (total : Read (List A)) → count ≤ i → with_front front (many_at one (count - i) bytes) ≡ total → total ≡ Ok (front, bytes)
-is_done {A} one front count i bytes total le so_far =
-    let k : count - i ≡ 0 = omega arith in
-    let step : with_front front (many_at one (count - i) bytes) ≡ Ok (front, bytes) = rw k (ap (λ (l : List A). Ok (l, bytes)) (append-nil front)) in
-    sym so_far ∙ step
+ends one e front count i bytes total lt h so_far = one_failed one e front (count - i) (count - (i + 1)) bytes total (omega arith) h so_far
 
 -- ---- items of a fixed number of bytes
 

@@ -11,11 +11,11 @@ use Rattle.ig_value.specs.Stops.{Stops, StopsTo}
 use Rattle.ig_value.specs.Canon.{Canon}
 use Rattle.ig_value.specs.Limits.{Fits, Nodes}
 use Rattle.ig_value.specs.Reading.{Fault, value_at, reading}
-use Rattle.ig_value.proofs.Agrees.{Takes, Halts, AreBytes-drop, ok_is, err_is}
-use Rattle.ig_value.proofs.Values.{value_agrees}
-use Rattle.ig_value.proofs.Spelled.{spelled_canonical, spelled_fits, spelled_nodes}
+use Rattle.ig_value.proofs.AgreesLemmas.{Takes, Halts, AreBytes-drop, ok_is, err_is}
+use Rattle.ig_value.proofs.ValueLemmas.{value_agrees}
+use Rattle.ig_value.proofs.SpelledLemmas.{spelled_canonical, spelled_fits, spelled_nodes}
 use Rattle.ig_decode.specs.declared.answer.Decoded.{Decoded}
-use Rattle.ig_decode.specs.Answers.{IsFound, IsRefused, IsCanonical}
+use Rattle.ig_decode.specs.DecodeAnswers.{IsFound, IsRefused, IsCanonical}
 
 -- ---- a value was read
 
@@ -25,17 +25,17 @@ taken bytes at v rest b e = (value_agrees 32).takes (drop at bytes) v rest (AreB
 pub rest_within : (bytes : List ℕ) (at : ℕ) (v : Value) (rest : List ℕ) → AreBytes bytes → value_at 32 (drop at bytes) ≡ Ok (v, rest) → length rest ≤ length bytes - at
 rest_within bytes at v rest b e =
     let t = taken bytes at v rest b e in
-    omega (arith, ap length t.whole, length-append t.front rest, length-drop at bytes)
+    omega (arith, ap length t.whole, length-append t.prefix rest, length-drop at bytes)
 
-used_is : (bytes : List ℕ) (at : ℕ) (v : Value) (rest : List ℕ) (b : AreBytes bytes) (e : value_at 32 (drop at bytes) ≡ Ok (v, rest)) (used : ℕ) → used ≡ length bytes - at - length rest → length (taken bytes at v rest b e).front ≡ used
+used_is : (bytes : List ℕ) (at : ℕ) (v : Value) (rest : List ℕ) (b : AreBytes bytes) (e : value_at 32 (drop at bytes) ≡ Ok (v, rest)) (used : ℕ) → used ≡ length bytes - at - length rest → length (taken bytes at v rest b e).prefix ≡ used
 used_is bytes at v rest b e used is =
     let t = taken bytes at v rest b e in
-    omega (arith, ap length t.whole, length-append t.front rest, length-drop at bytes)
+    omega (arith, ap length t.whole, length-append t.prefix rest, length-drop at bytes)
 
-front_is : (bytes : List ℕ) (at : ℕ) (v : Value) (rest : List ℕ) (b : AreBytes bytes) (e : value_at 32 (drop at bytes) ≡ Ok (v, rest)) (used : ℕ) → used ≡ length bytes - at - length rest → take used (drop at bytes) ≡ (taken bytes at v rest b e).front
+front_is : (bytes : List ℕ) (at : ℕ) (v : Value) (rest : List ℕ) (b : AreBytes bytes) (e : value_at 32 (drop at bytes) ≡ Ok (v, rest)) (used : ℕ) → used ≡ length bytes - at - length rest → take used (drop at bytes) ≡ (taken bytes at v rest b e).prefix
 front_is bytes at v rest b e used is =
     let t = taken bytes at v rest b e in
-    ap (take used) t.whole ∙ take_at t.front rest used (used_is bytes at v rest b e used is)
+    ap (take used) t.whole ∙ take_at t.prefix rest used (used_is bytes at v rest b e used is)
 
 pub is_found : (bytes : List ℕ) (at : ℕ) (v : Value) (rest : List ℕ) → at ≤ length bytes → AreBytes bytes → value_at 32 (drop at bytes) ≡ Ok (v, rest) → (used : ℕ) → used ≡ length bytes - at - length rest →
     IsFound bytes at (record { value = v; used = used; canonical = true })
@@ -53,13 +53,13 @@ is_found bytes at v rest le b e used is =
 pub byte_for_node : (bytes : List ℕ) (at : ℕ) (v : Value) (rest : List ℕ) → AreBytes bytes → value_at 32 (drop at bytes) ≡ Ok (v, rest) → Nodes v ≤ length bytes - at - length rest
 byte_for_node bytes at v rest b e =
     let t = taken bytes at v rest b e in
-    omega (arith, spelled_nodes 32 t.front v t.right, used_is bytes at v rest b e (length bytes - at - length rest) refl)
+    omega (arith, spelled_nodes 32 t.prefix v t.right, used_is bytes at v rest b e (length bytes - at - length rest) refl)
 
 pub reads_ok : (bytes : List ℕ) (at : ℕ) (v : Value) (rest : List ℕ) → AreBytes bytes → value_at 32 (drop at bytes) ≡ Ok (v, rest) → (used : ℕ) → used ≡ length bytes - at - length rest → reading (drop at bytes) ≡ Ok (v, drop (at + used) bytes)
 unfolding reading
 reads_ok bytes at v rest b e used is =
     let t = taken bytes at v rest b e in
-    let behind : drop (at + used) bytes ≡ rest = sym (drop-drop used at bytes) ∙ ap (drop used) t.whole ∙ drop_at t.front rest used (used_is bytes at v rest b e used is) in
+    let behind : drop (at + used) bytes ≡ rest = sym (drop-drop used at bytes) ∙ ap (drop used) t.whole ∙ drop_at t.prefix rest used (used_is bytes at v rest b e used is) in
     rw behind e
 
 pub one_found : (bytes : List ℕ) (at : ℕ) (v : Value) (rest : List ℕ) → AreBytes bytes → value_at 32 (drop at bytes) ≡ Ok (v, rest) → (s r : List ℕ) (w : Value) → drop at bytes ≡ s ++ r → Spells s w → (v ≡ w) × (length bytes - at - length rest ≡ length s)
