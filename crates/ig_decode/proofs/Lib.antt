@@ -1,4 +1,4 @@
-pub mod Loop
-pub mod Texts
-pub mod Two
-pub mod Outcome
+pub mod LoopLemmas
+pub mod TextLemmas
+pub mod PairLemmas
+pub mod DecodeLemmas

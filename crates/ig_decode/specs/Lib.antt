@@ -1,3 +1,3 @@
-pub mod Gives
-pub mod Parts
-pub mod Answers
+pub mod ReaderAnswers
+pub mod ArrayAt
+pub mod DecodeAnswers

@@ -1,12 +1,12 @@
-//! What reading gives.
+//! The result of decoding.
 
 use ig_value::Value;
 
-/// A value that was read.
+/// A decoded value.
 #[derive(Debug, Drop)]
 pub struct Decoded {
     pub value: Value,
-    /// How many bytes spell it.
+    /// How many bytes encode it.
     pub used: usize,
     /// Whether these bytes are its canonical form.
     pub canonical: bool,

@@ -1,9 +1,9 @@
-//! The calls that read.
+//! The calls that decode.
 
 ghost use Rattle.std.specs.Prelude.{◌≡◌, ◌↔◌, ◌≤◌, length, drop, IsTrue, IfOk};
 ghost use Rattle.ig_value.specs.Reading.{value_at};
-ghost use Rattle.ig_decode.specs.Gives.{Gives};
-ghost use Rattle.ig_decode.specs.Answers.{IsRight, FindsWhatIsSpelled, RefusesWhatStops, Reads, HasByteForEachNode, IsCanonical};
+ghost use Rattle.ig_decode.specs.ReaderAnswers.{ReaderAnswers};
+ghost use Rattle.ig_decode.specs.DecodeAnswers.{IsRight, FindsWhatIsSpelled, RefusesWhatStops, Reads, HasByteForEachNode, IsCanonical};
 
 use crate::answer::Decoded;
 use crate::fault::{DecodeFault, ReadError, Refusal};
@@ -12,9 +12,10 @@ use ig_base::NoMemory;
 use ig_value::{DEEPEST, Value};
 use std::alloc::Global;
 
-/// Reads the value that a front of the bytes spells. Bytes may follow it.
+/// Decodes the value that a prefix of the bytes encodes. Other bytes may follow it.
 ///
-/// It is `Ok` exactly where some front is a spelling, and else the refusal is the first item that is wrong, with its place.
+/// Where no prefix encodes a value, it refuses the bytes, with the offset of the first wrong item
+/// and the cause. The only other error is out of memory.
 pub fn decode(alloc: Global, bytes: &[u8]) -> Result<Decoded, DecodeFault>
     ensures right { IsRight bytes.now 0 result }
     ensures found { FindsWhatIsSpelled bytes.now 0 result }
@@ -25,7 +26,7 @@ pub fn decode(alloc: Global, bytes: &[u8]) -> Result<Decoded, DecodeFault>
     decode_at(alloc, bytes, 0)
 }
 
-/// The same from a place on, with places that count from the beginning of the bytes.
+/// The same from an offset on. The offset of a refusal counts from the beginning of the bytes.
 pub fn decode_at(alloc: Global, bytes: &[u8], at: usize) -> Result<Decoded, DecodeFault>
     requires { at ≤ length bytes.now }
     ensures right { IsRight bytes.now at result }
@@ -48,16 +49,16 @@ pub fn decode_at(alloc: Global, bytes: &[u8], at: usize) -> Result<Decoded, Deco
     }
 }
 
-/// The value at a place, and the bytes behind it.
+/// The value at an offset, and the bytes after it.
 fn read_from(alloc: Global, bytes: &[u8], at: usize) -> Result<(Value, &[u8]), ReadError>
     requires { at ≤ length bytes.now }
-    ensures { Gives (λ x. (x.0, x.1.now)) result (value_at 32 (drop at bytes.now)) }
+    ensures { ReaderAnswers (λ x. (x.0, x.1.now)) result (value_at 32 (drop at bytes.now)) }
 {
     let (_, rest) = bytes.split_at(at);
     value_of(alloc, DEEPEST, rest)
 }
 
-/// Whether the whole of the bytes is the canonical form of a value.
+/// Whether the bytes, all of them, are the canonical form of a value.
 pub fn is_canonical(alloc: Global, bytes: &[u8]) -> Result<bool, NoMemory>
     ensures { IfOk result (λ yes. IsTrue yes ↔ IsCanonical bytes.now) }
 {

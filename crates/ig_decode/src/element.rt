@@ -1,23 +1,24 @@
-//! Numbers and truth values, one after the other.
+//! Numbers and truth values, and arrays of them.
 
 ghost use Rattle.std.specs.Prelude.{◌≡◌, ℕ, ◌/◌, ◌<◌, ◌≤◌, min, List, [], length, Result, IfOk, vec_capacity};
 ghost use Rattle.ig_value.specs.declared.cause.Cause.{Cause};
 ghost use Rattle.ig_value.specs.Part as scalar;
 ghost use Rattle.ig_value.specs.Reading.{scalar_of, item_at, many_at};
-ghost use Rattle.ig_decode.specs.Gives.{Gives};
+ghost use Rattle.ig_decode.specs.ReaderAnswers.{ReaderAnswers};
 ghost use Rattle.std.proofs.Common.{lit<};
 
+use crate::count::{StatedCount, room_for};
 use crate::fault::ReadError;
 use ig_base::Items;
 use ig_value::Cause;
-use std::alloc::{AllocError, Global};
+use std::alloc::Global;
 
-/// What has a fixed number of bytes.
-pub(crate) trait Element: Drop + Sized {
-    /// What so many bytes are.
+/// A number or a truth value, which has a fixed number of bytes.
+pub(crate) trait ReadElement: Drop + Sized {
+    /// The element that these bytes encode, or why they don't.
     ghost meaning: { List ℕ → Result Self Cause };
 
-    /// How many bytes.
+    /// The number of bytes.
     ghost WIDTH: { ℕ };
 
     const WIDTH: usize;
@@ -29,7 +30,7 @@ pub(crate) trait Element: Drop + Sized {
     ghost some: { 0 < WIDTH };
 }
 
-impl Element for i8 {
+impl ReadElement for i8 {
     ghost meaning = { scalar_of scalar.i8 };
 
     ghost WIDTH = { 1 };
@@ -43,7 +44,7 @@ impl Element for i8 {
     }
 }
 
-impl Element for i16 {
+impl ReadElement for i16 {
     ghost meaning = { scalar_of scalar.i16 };
 
     ghost WIDTH = { 2 };
@@ -57,7 +58,7 @@ impl Element for i16 {
     }
 }
 
-impl Element for i32 {
+impl ReadElement for i32 {
     ghost meaning = { scalar_of scalar.i32 };
 
     ghost WIDTH = { 4 };
@@ -71,7 +72,7 @@ impl Element for i32 {
     }
 }
 
-impl Element for i64 {
+impl ReadElement for i64 {
     ghost meaning = { scalar_of scalar.i64 };
 
     ghost WIDTH = { 8 };
@@ -87,7 +88,7 @@ impl Element for i64 {
     }
 }
 
-impl Element for u16 {
+impl ReadElement for u16 {
     ghost meaning = { scalar_of scalar.u16 };
 
     ghost WIDTH = { 2 };
@@ -101,7 +102,7 @@ impl Element for u16 {
     }
 }
 
-impl Element for u32 {
+impl ReadElement for u32 {
     ghost meaning = { scalar_of scalar.u32 };
 
     ghost WIDTH = { 4 };
@@ -115,7 +116,7 @@ impl Element for u32 {
     }
 }
 
-impl Element for u64 {
+impl ReadElement for u64 {
     ghost meaning = { scalar_of scalar.u64 };
 
     ghost WIDTH = { 8 };
@@ -131,7 +132,7 @@ impl Element for u64 {
     }
 }
 
-impl Element for bool {
+impl ReadElement for bool {
     ghost meaning = { scalar_of scalar.truth };
 
     ghost WIDTH = { 1 };
@@ -149,9 +150,9 @@ impl Element for bool {
     }
 }
 
-/// The element at the front.
-pub(crate) fn element_at<E: Element>(bytes: &[u8]) -> Result<(E, &[u8]), ReadError>
-    ensures { Gives (λ x. (x.0, x.1.now)) result (item_at E.WIDTH E.meaning bytes.now) }
+/// The element that the bytes begin with, and the bytes after it.
+pub(crate) fn element_at<E: ReadElement>(bytes: &[u8]) -> Result<(E, &[u8]), ReadError>
+    ensures { ReaderAnswers (λ x. (x.0, x.1.now)) result (item_at E.WIDTH E.meaning bytes.now) }
 {
     let left = bytes.len();
     if left < E::WIDTH {
@@ -167,53 +168,16 @@ pub(crate) fn element_at<E: Element>(bytes: &[u8]) -> Result<(E, &[u8]), ReadErr
     }
 }
 
-/// Room for a list whose stated count isn't trusted: for no more items than the rest of the input has bytes.
-pub(crate) fn room_for<T>(alloc: Global, count: usize, rest: &[u8]) -> Result<Vec<T>, AllocError>
-    ensures empty { IfOk result (λ made. made.items ≡ []) }
-    ensures room { IfOk result (λ made. vec_capacity made ≡ min count (length rest.now)) }
-{
-    let room = if count < rest.len() {
-        count
-    } else {
-        rest.len()
-    };
-    Vec::with_capacity(alloc, room)
-}
-
-/// How many values a list takes room for before they are read. A list in a list in a list that lies about its count, at
-/// each depth, then takes no more than so many at each.
-const FIRST_ROOM: usize = 256;
-
-/// Room for the first values of so many; the list grows with those that are there.
-pub(crate) fn first_room(count: usize) -> usize
-    ensures stated { result ≤ count }
-    ensures few { result ≤ 256 }
-{
-    if count < FIRST_ROOM {
-        count
-    } else {
-        FIRST_ROOM
-    }
-}
-
-/// How many of the items, which have so many bytes each, are whole in so many bytes.
-fn whole_items(count: usize, width: usize, left: usize) -> usize
-    requires { 0 < width }
-    ensures { result ≡ min count (left / width) }
-{
-    let there = left / width;
-    if count < there { count } else { there }
-}
-
-/// As many elements as the count says, one after the other.
-pub(crate) fn elements_at<E: Element>(
+/// As many elements as the count says, and the bytes after them.
+pub(crate) fn elements_at<E: ReadElement>(
     alloc: Global,
-    count: usize,
+    count: StatedCount,
     bytes: &[u8],
 ) -> Result<(Items<E>, &[u8]), ReadError>
-    ensures { Gives (λ x. (x.0, x.1.now)) result (many_at (item_at E.WIDTH E.meaning) count bytes.now) }
+    ensures { ReaderAnswers (λ x. (x.0, x.1.now)) result (many_at
+        (item_at E.WIDTH E.meaning) count.items bytes.now) }
 {
-    let whole = whole_items(count, E::WIDTH, bytes.len());
+    let whole = count.whole_items(E::WIDTH, bytes.len());
     let mut elements = room_for(alloc, whole, bytes)?;
     let mut rest = bytes;
     for _ in 0..whole {
@@ -229,7 +193,7 @@ pub(crate) fn elements_at<E: Element>(
         }
         rest = after;
     }
-    if whole < count {
+    if count.is_more_than(whole) {
         return Err(ReadError::Fault {
             left: rest.len(),
             cause: Cause::Short,

@@ -5,29 +5,49 @@ ghost use Rattle.ig_decode.specs.declared.fault.ReadError.TheVariants.{NoMemory}
 
 use ig_value::Cause;
 use std::alloc::{AllocError, AllocFailed};
+use std::fmt;
 
-/// Where the bytes stop being a value, and why.
+/// The offset at which the bytes stop being a value, and why they do.
 #[derive(Clone, Copy, Debug, PartialEq, Eq)]
 pub struct Refusal {
-    /// The place of the first item that is wrong, from the beginning of the bytes.
+    /// The offset of the first wrong item, from the beginning of the bytes.
     pub place: usize,
     pub cause: Cause,
 }
 
-/// Why bytes gave no value.
+/// Why decoding failed.
 #[derive(Clone, Copy, Debug, PartialEq, Eq)]
 pub enum DecodeFault {
-    /// They are none.
+    /// The bytes don't begin with a value.
     Refused(Refusal),
-    /// There was no memory for it.
+    /// There was no memory for the value.
     NoMemory,
 }
+
+impl fmt::Display for Refusal {
+    fn fmt<W: fmt::Write>(&self, f: &mut fmt::Formatter<W>) -> fmt::Result {
+        write!(f, "{} at offset {}", self.cause, self.place)
+    }
+}
+
+impl std::error::Error for Refusal {}
+
+impl fmt::Display for DecodeFault {
+    fn fmt<W: fmt::Write>(&self, f: &mut fmt::Formatter<W>) -> fmt::Result {
+        match self {
+            DecodeFault::Refused(refusal) => write!(f, "{refusal}"),
+            DecodeFault::NoMemory => write!(f, "no memory"),
+        }
+    }
+}
+
+impl std::error::Error for DecodeFault {}
 
 /// Why a part could not be read.
 #[derive(Clone, Copy, Debug)]
 pub(crate) enum ReadError {
     NoMemory,
-    /// The first item that is wrong stands where so many bytes are left.
+    /// The first wrong item, by the number of bytes that are left where it begins.
     Fault { left: usize, cause: Cause },
 }
 

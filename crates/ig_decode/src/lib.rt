@@ -1,12 +1,20 @@
-//! Reading values: the one value that some front of the bytes spells, or where and why they stop being one.
+//! Decoding values: the one value that a prefix of the bytes encodes, or the offset at which they
+//! stop being one, and why.
 //!
-//! [`decode`] reads from left to right and takes memory for what the value holds alone: a count that lies never makes it
-//! ask for more items than the rest of the input has bytes. Its contract speaks of the grammar of `ig_value`: `Spells`
-//! says which bytes are which value, and `Stops` where bytes are none.
+//! ```text
+//! 3 5 0 0 0 8 9        Int(5), from 5 bytes; the rest is not looked at
+//! 9 5 0 0 0 0x61       refused: the value isn't whole at offset 5
+//! ```
+//!
+//! [`decode`] reads from left to right, and takes memory for what is there: a count that lies never
+//! makes it ask for more items than bytes are left. Its contract is stated by the grammar of
+//! `ig_value`: `Spells` says which bytes encode which value, and `Stops` where bytes stop being
+//! one.
 #![tactic(auto)]
 
 mod answer;
 mod calls;
+mod count;
 mod element;
 mod fault;
 mod parts;

@@ -1,27 +1,28 @@
-//! What stands behind a count, and the parts of more than one number.
+//! Counted parts, and parts of more than one number.
 
 ghost use Rattle.std.specs.Prelude.{◌≡◌, ℕ, List, length};
 ghost use Rattle.ig_value.specs.Part as part;
 ghost use Rattle.ig_value.specs.Table.{byte_of};
 ghost use Rattle.ig_value.specs.Reading.{Read, count_at, counted_at, run_at, text_run_at, scalar_at, item_at, uuid_at, stamp_at, decimal_at, optional_at, many_at};
-ghost use Rattle.ig_decode.specs.Gives.{Gives};
-ghost use Rattle.ig_decode.specs.Parts.{array_at};
+ghost use Rattle.ig_decode.specs.ReaderAnswers.{ReaderAnswers};
+ghost use Rattle.ig_decode.specs.ArrayAt.{array_at};
 
-use crate::element::{Element, element_at, elements_at, room_for};
+use crate::count::{StatedCount, room_for};
+use crate::element::{ReadElement, element_at, elements_at};
 use crate::fault::ReadError;
 use ig_base::{Items, NodeId, Octets, Text};
 use ig_value::{Cause, Code, Dec, Stamp};
 use std::alloc::Global;
 
-/// What stands behind a code, and may be an item of an array beside null.
-pub(crate) trait Content: Drop + Sized {
+/// The content after a code, which can also be an item of an array beside nulls.
+pub(crate) trait ReadContent: Drop + Sized {
     ghost reads: { List ℕ → Read Self };
 
     fn read(alloc: Global, bytes: &[u8]) -> Result<(Self, &[u8]), ReadError>
-        ensures { Gives (λ x. (x.0, x.1.now)) result (reads bytes.now) };
+        ensures { ReaderAnswers (λ x. (x.0, x.1.now)) result (reads bytes.now) };
 }
 
-impl Content for i64 {
+impl ReadContent for i64 {
     ghost reads = { scalar_at part.i64 };
 
     fn read(_alloc: Global, bytes: &[u8]) -> Result<(i64, &[u8]), ReadError> {
@@ -29,20 +30,19 @@ impl Content for i64 {
     }
 }
 
-impl Content for Text {
+impl ReadContent for Text {
     ghost reads = { counted_at text_run_at };
 
     fn read(alloc: Global, bytes: &[u8]) -> Result<(Text, &[u8]), ReadError> {
         let (count, rest) = count_of(bytes)?;
         let left = rest.len();
-        if left < count {
+        let Some((counted, rest)) = count.run(rest) else {
             return Err(ReadError::Fault {
                 left,
                 cause: Cause::Short,
             });
-        }
-        let (run, rest) = rest.split_at(count);
-        match simdutf8::basic::from_utf8(run) {
+        };
+        match simdutf8::basic::from_utf8(counted) {
             Ok(text) => Ok((Text::new(String::from_str(alloc, text)?), rest)),
             Err(_) => Err(ReadError::Fault {
                 left,
@@ -52,24 +52,23 @@ impl Content for Text {
     }
 }
 
-impl Content for Octets {
+impl ReadContent for Octets {
     ghost reads = { counted_at run_at };
 
     fn read(alloc: Global, bytes: &[u8]) -> Result<(Octets, &[u8]), ReadError> {
         let (count, rest) = count_of(bytes)?;
         let left = rest.len();
-        if left < count {
+        let Some((counted, rest)) = count.run(rest) else {
             return Err(ReadError::Fault {
                 left,
                 cause: Cause::Short,
             });
-        }
-        let (run, rest) = rest.split_at(count);
-        Ok((Octets::new(Vec::from_slice(alloc, run)?), rest))
+        };
+        Ok((Octets::new(Vec::from_slice(alloc, counted)?), rest))
     }
 }
 
-impl Content for NodeId {
+impl ReadContent for NodeId {
     ghost reads = { uuid_at };
 
     fn read(_alloc: Global, bytes: &[u8]) -> Result<(NodeId, &[u8]), ReadError> {
@@ -79,7 +78,7 @@ impl Content for NodeId {
     }
 }
 
-impl Content for Stamp {
+impl ReadContent for Stamp {
     ghost reads = { stamp_at };
 
     fn read(_alloc: Global, bytes: &[u8]) -> Result<(Stamp, &[u8]), ReadError> {
@@ -89,7 +88,7 @@ impl Content for Stamp {
     }
 }
 
-impl Content for Dec {
+impl ReadContent for Dec {
     ghost reads = { decimal_at };
 
     fn read(alloc: Global, bytes: &[u8]) -> Result<(Dec, &[u8]), ReadError> {
@@ -99,9 +98,9 @@ impl Content for Dec {
     }
 }
 
-/// An Int32 count, which isn't below 0.
-pub(crate) fn count_of(bytes: &[u8]) -> Result<(usize, &[u8]), ReadError>
-    ensures { Gives (λ x. (x.0, x.1.now)) result (count_at bytes.now) }
+/// An Int32 count, which isn't negative.
+pub(crate) fn count_of(bytes: &[u8]) -> Result<(StatedCount, &[u8]), ReadError>
+    ensures { ReaderAnswers (λ x. (x.0.items, x.1.now)) result (count_at bytes.now) }
 {
     let (count, rest) = element_at::<i32>(bytes)?;
     if count < 0 {
@@ -110,27 +109,29 @@ pub(crate) fn count_of(bytes: &[u8]) -> Result<(usize, &[u8]), ReadError>
             cause: Cause::Count(count),
         });
     }
-    Ok((count as usize, rest))
+    Ok((StatedCount::new(count as usize), rest))
 }
 
-/// As many elements as the count before them says.
-pub(crate) fn array_of<E: Element>(
+/// An array of elements: their count, and the elements.
+pub(crate) fn array_of<E: ReadElement>(
     alloc: Global,
     bytes: &[u8],
 ) -> Result<(Items<E>, &[u8]), ReadError>
-    ensures { Gives (λ x. ((tt, x.0), x.1.now)) result (array_at (item_at E.WIDTH E.meaning) bytes.now) }
+    ensures { ReaderAnswers (λ x. ((tt, x.0), x.1.now)) result (array_at
+        (item_at E.WIDTH E.meaning) bytes.now) }
 {
     let (count, rest) = count_of(bytes)?;
     elements_at(alloc, count, rest)
 }
 
-/// Null, or the content behind its code.
-fn optional_of<C: Content>(
+/// Null, or a code and its content.
+fn optional_of<C: ReadContent>(
     alloc: Global,
     code: Code,
     bytes: &[u8],
 ) -> Result<(Option<C>, &[u8]), ReadError>
-    ensures { Gives (λ x. (x.0, x.1.now)) result (optional_at (byte_of code) C.reads bytes.now) }
+    ensures { ReaderAnswers (λ x. (x.0, x.1.now))
+        result (optional_at (byte_of code) C.reads bytes.now) }
 {
     match bytes.split_first() {
         None => Err(ReadError::Fault {
@@ -153,18 +154,19 @@ fn optional_of<C: Content>(
     }
 }
 
-/// As many of them as the count says, one after the other.
-fn optionals_at<C: Content>(
+/// As many nulls and contents as the count says.
+fn optionals_at<C: ReadContent>(
     alloc: Global,
     code: Code,
-    count: usize,
+    count: StatedCount,
     bytes: &[u8],
 ) -> Result<(Items<Option<C>>, &[u8]), ReadError>
-    ensures { Gives (λ x. (x.0, x.1.now)) result (many_at (optional_at (byte_of code) C.reads) count bytes.now) }
+    ensures { ReaderAnswers (λ x. (x.0, x.1.now))
+        result (many_at (optional_at (byte_of code) C.reads) count.items bytes.now) }
 {
-    let mut items = room_for(alloc, count, bytes)?;
-    let mut rest = bytes;
-    for _ in 0..count {
+    let mut items = room_for(alloc, count.room(bytes), bytes)?;
+    let (mut left, mut rest) = (count, bytes);
+    'each: while left.take_one() {
         let (item, after) = optional_of(alloc, code, rest)?;
         items.push(item)?;
         rest = after;
@@ -172,13 +174,14 @@ fn optionals_at<C: Content>(
     Ok((Items::new(items), rest))
 }
 
-/// As many of them as the count before them says.
-pub(crate) fn optionals_of<C: Content>(
+/// An array of nulls and contents: their count, and the items.
+pub(crate) fn optionals_of<C: ReadContent>(
     alloc: Global,
     code: Code,
     bytes: &[u8],
 ) -> Result<(Items<Option<C>>, &[u8]), ReadError>
-    ensures { Gives (λ x. ((tt, x.0), x.1.now)) result (array_at (optional_at (byte_of code) C.reads) bytes.now) }
+    ensures { ReaderAnswers (λ x. ((tt, x.0), x.1.now))
+        result (array_at (optional_at (byte_of code) C.reads) bytes.now) }
 {
     let (count, rest) = count_of(bytes)?;
     optionals_at(alloc, code, count, rest)

@@ -2,10 +2,10 @@ use super::*;
 use ig_value::Value;
 use std::test::Fail;
 
-/// The refusals that a reader of the format expects, with their places.
+/// The refusals that the format asks for, with their offsets.
 #[test]
 fn refusals(rt: HostRuntime) {
-    let table: [(&[u8], usize, Cause); 19] = [
+    let table: [(&[u8], usize, Cause); 22] = [
         (&[], 0, Cause::Short),
         (&[102], 0, Cause::Code(102)),
         (&[103, 1, 7, 0], 0, Cause::Code(103)),
@@ -16,7 +16,10 @@ fn refusals(rt: HostRuntime) {
         (&[27, 3, 0, 0, 0, 1, 2], 5, Cause::Short),
         (&[12, 3, 0, 0, 0, 1, 2], 7, Cause::Short),
         (&[23, 1, 0, 0, 0, 0xff, 0xff, 0xff, 0x7f], 9, Cause::Short),
+        (&[14, 0xff, 0xff, 0xff, 0x7f], 5, Cause::Short),
+        (&[20, 0xff, 0xff, 0xff, 0x7f], 5, Cause::Short),
         (&[24, 0xff, 0xff, 0xff, 0x7f, 1], 6, Cause::Short),
+        (&[25, 0xff, 0xff, 0xff, 0x7f, 1], 6, Cause::Short),
         (&[12, 0xff, 0xff, 0xff, 0xff], 1, Cause::Count(-1)),
         (&[9, 2, 0, 0, 0, 0xc3, 0x28], 5, Cause::Utf8),
         (&[14, 2, 0, 0, 0, 1, 0, 0, 0, 2, 0], 9, Cause::Short),
@@ -39,7 +42,7 @@ fn refusals(rt: HostRuntime) {
     }
 }
 
-/// Collections inside one another, so many of them, and a null inside the last.
+/// A null inside this many levels of collections.
 fn nested(rt: &HostRuntime, levels: usize) -> Result<Vec<u8>, Fail> {
     let mut bytes = Vec::new(rt.alloc());
     for _ in 0..levels {
@@ -88,5 +91,18 @@ fn places(rt: HostRuntime) -> Result<(), Fail> {
     assert!(rt; is_canonical(rt.alloc(), &bytes[2..7])?);
     assert!(rt; !is_canonical(rt.alloc(), &bytes[2..])?);
     assert!(rt; !is_canonical(rt.alloc(), &bytes[..2])?);
+    Ok(())
+}
+
+#[test]
+fn refusals_name_the_offset(rt: HostRuntime) -> Result<(), Fail> {
+    let fault = DecodeFault::Refused(Refusal {
+        place: 12,
+        cause: Cause::Short,
+    });
+    let text = format!(in rt.alloc(); "{fault}")?;
+    assert_eq!(rt; text.as_str(), "the value isn't whole at offset 12");
+    let text = format!(in rt.alloc(); "{}", Cause::Count(-1))?;
+    assert_eq!(rt; text.as_str(), "the count -1 is negative");
     Ok(())
 }

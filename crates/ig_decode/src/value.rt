@@ -1,26 +1,28 @@
-//! Values, whatever stands inside them.
+//! Values, and the values inside them.
 
 ghost use Rattle.std.specs.Prelude.{◌≡◌, ℕ, ◌<◌};
 ghost use Rattle.ig_value.specs.declared.Code.TheVariants as code;
 ghost use Rattle.ig_value.specs.Reading.{content_at, value_at, many_at, both_at};
-ghost use Rattle.ig_decode.specs.Gives.{Gives};
+ghost use Rattle.ig_decode.specs.ReaderAnswers.{ReaderAnswers};
 
-use crate::element::{element_at, first_room, room_for};
+use crate::count::{StatedCount, room_for};
+use crate::element::element_at;
 use crate::fault::ReadError;
-use crate::parts::{Content, count_of};
+use crate::parts::{ReadContent, count_of};
 use crate::rows::{array_row, content_row, element_row, optionals_row};
 use ig_base::{Items, Octets};
 use ig_value::{Cause, Code, Value};
 use std::alloc::Global;
 
-/// The value at the front, which is at most so many levels deep.
+/// The value that the bytes begin with, at most `levels` deep, and the bytes after it.
 #[cycle(value)]
+#[inline(always)]
 pub(crate) fn value_of(
     alloc: Global,
     levels: u32,
     bytes: &[u8],
 ) -> Result<(Value, &[u8]), ReadError>
-    ensures { Gives (λ x. (x.0, x.1.now)) result (value_at levels bytes.now) }
+    ensures { ReaderAnswers (λ x. (x.0, x.1.now)) result (value_at levels bytes.now) }
 {
     let left = bytes.len();
     match bytes.split_first() {
@@ -46,15 +48,18 @@ pub(crate) fn value_of(
     }
 }
 
-/// The value with this code whose content is at the front. A value inside is at most so many levels deep.
+/// The value with this code and the content that the bytes begin with. A value inside is at most
+/// `levels` deep.
 #[cycle(value)]
+#[inline(always)]
 fn content_of(
     alloc: Global,
     levels: u32,
     code: Code,
     bytes: &[u8],
 ) -> Result<(Value, &[u8]), ReadError>
-    ensures { Gives (λ x. (x.0, x.1.now)) result (content_at (value_at levels) code bytes.now) }
+    ensures { ReaderAnswers (λ x. (x.0, x.1.now))
+        result (content_at (value_at levels) code bytes.now) }
 {
     match code {
         Code::Byte => element_row(bytes, Value::Byte),
@@ -96,10 +101,11 @@ fn content_of(
     }
 }
 
-/// Bytes behind their count, and an offset.
+/// An object wrapped in bytes: the bytes, and an offset in them.
 #[inline(never)]
 fn wrapped_of(alloc: Global, bytes: &[u8]) -> Result<(Value, &[u8]), ReadError>
-    ensures { Gives (λ x. (x.0, x.1.now)) result (content_at (value_at 0) code.Wrapped bytes.now) }
+    ensures { ReaderAnswers (λ x. (x.0, x.1.now))
+        result (content_at (value_at 0) code.Wrapped bytes.now) }
 {
     let (octets, rest) = Octets::read(alloc, bytes)?;
     let (offset, rest) = element_at(rest)?;
@@ -112,31 +118,34 @@ fn wrapped_of(alloc: Global, bytes: &[u8]) -> Result<(Value, &[u8]), ReadError>
     ))
 }
 
-/// A type, and an ordinal.
+/// A literal of an enum: its type, and its ordinal.
 #[inline(never)]
 fn enum_of(bytes: &[u8]) -> Result<(Value, &[u8]), ReadError>
-    ensures { Gives (λ x. (x.0, x.1.now)) result (content_at (value_at 0) code.Enum bytes.now) }
+    ensures { ReaderAnswers (λ x. (x.0, x.1.now))
+        result (content_at (value_at 0) code.Enum bytes.now) }
 {
     let (type_id, rest) = element_at(bytes)?;
     let (ordinal, rest) = element_at(rest)?;
     Ok((Value::Enum { type_id, ordinal }, rest))
 }
 
-/// The same of an enum that is described elsewhere.
+/// The same for an enum type whose description is registered.
 #[inline(never)]
 fn binary_enum_of(bytes: &[u8]) -> Result<(Value, &[u8]), ReadError>
-    ensures { Gives (λ x. (x.0, x.1.now)) result (content_at (value_at 0) code.BinaryEnum bytes.now) }
+    ensures { ReaderAnswers (λ x. (x.0, x.1.now))
+        result (content_at (value_at 0) code.BinaryEnum bytes.now) }
 {
     let (type_id, rest) = element_at(bytes)?;
     let (ordinal, rest) = element_at(rest)?;
     Ok((Value::BinaryEnum { type_id, ordinal }, rest))
 }
 
-/// A type, and as many values as the count behind it says.
+/// An array of objects: their type, their count, and the values.
 #[cycle(value)]
 #[inline(never)]
 fn objects_of(alloc: Global, levels: u32, bytes: &[u8]) -> Result<(Value, &[u8]), ReadError>
-    ensures { Gives (λ x. (x.0, x.1.now)) result (content_at (value_at levels) code.Objects bytes.now) }
+    ensures { ReaderAnswers (λ x. (x.0, x.1.now))
+        result (content_at (value_at levels) code.Objects bytes.now) }
 {
     let (type_id, rest) = element_at(bytes)?;
     let (count, rest) = count_of(rest)?;
@@ -144,11 +153,12 @@ fn objects_of(alloc: Global, levels: u32, bytes: &[u8]) -> Result<(Value, &[u8])
     Ok((Value::Objects { type_id, items }, rest))
 }
 
-/// The same of enums.
+/// The same for enums.
 #[cycle(value)]
 #[inline(never)]
 fn enums_of(alloc: Global, levels: u32, bytes: &[u8]) -> Result<(Value, &[u8]), ReadError>
-    ensures { Gives (λ x. (x.0, x.1.now)) result (content_at (value_at levels) code.Enums bytes.now) }
+    ensures { ReaderAnswers (λ x. (x.0, x.1.now))
+        result (content_at (value_at levels) code.Enums bytes.now) }
 {
     let (type_id, rest) = element_at(bytes)?;
     let (count, rest) = count_of(rest)?;
@@ -156,11 +166,12 @@ fn enums_of(alloc: Global, levels: u32, bytes: &[u8]) -> Result<(Value, &[u8]), 
     Ok((Value::Enums { type_id, items }, rest))
 }
 
-/// A kind, and as many values as the count before it says.
+/// A collection: its count, its kind, and the values.
 #[cycle(value)]
 #[inline(never)]
 fn collection_of(alloc: Global, levels: u32, bytes: &[u8]) -> Result<(Value, &[u8]), ReadError>
-    ensures { Gives (λ x. (x.0, x.1.now)) result (content_at (value_at levels) code.Collection bytes.now) }
+    ensures { ReaderAnswers (λ x. (x.0, x.1.now))
+        result (content_at (value_at levels) code.Collection bytes.now) }
 {
     let (count, rest) = count_of(bytes)?;
     let (kind, rest) = element_at(rest)?;
@@ -168,11 +179,12 @@ fn collection_of(alloc: Global, levels: u32, bytes: &[u8]) -> Result<(Value, &[u
     Ok((Value::Collection { kind, items }, rest))
 }
 
-/// A kind, and as many pairs of values as the count before it says.
+/// A map: its count, its kind, and the pairs.
 #[cycle(value)]
 #[inline(never)]
 fn map_of(alloc: Global, levels: u32, bytes: &[u8]) -> Result<(Value, &[u8]), ReadError>
-    ensures { Gives (λ x. (x.0, x.1.now)) result (content_at (value_at levels) code.Map bytes.now) }
+    ensures { ReaderAnswers (λ x. (x.0, x.1.now))
+        result (content_at (value_at levels) code.Map bytes.now) }
 {
     let (count, rest) = count_of(bytes)?;
     let (kind, rest) = element_at(rest)?;
@@ -180,19 +192,20 @@ fn map_of(alloc: Global, levels: u32, bytes: &[u8]) -> Result<(Value, &[u8]), Re
     Ok((Value::Map { kind, pairs }, rest))
 }
 
-/// As many values as the count says, one after the other.
+/// As many values as the count says.
 #[cycle(value)]
 fn values_of(
     alloc: Global,
     levels: u32,
-    count: usize,
+    count: StatedCount,
     bytes: &[u8],
 ) -> Result<(Items<Value>, &[u8]), ReadError>
-    ensures { Gives (λ x. (x.0, x.1.now)) result (many_at (value_at levels) count bytes.now) }
+    ensures { ReaderAnswers (λ x. (x.0, x.1.now))
+        result (many_at (value_at levels) count.items bytes.now) }
 {
-    let mut values = room_for(alloc, first_room(count), bytes)?;
-    let mut rest = bytes;
-    for _ in 0..count {
+    let mut values = room_for(alloc, count.first_room(bytes), bytes)?;
+    let (mut left, mut rest) = (count, bytes);
+    'each: while left.take_one() {
         let (value, after) = value_of(alloc, levels, rest)?;
         values.push(value)?;
         rest = after;
@@ -200,19 +213,20 @@ fn values_of(
     Ok((Items::new(values), rest))
 }
 
-/// As many pairs of values as the count says, one after the other.
+/// As many pairs of values as the count says.
 #[cycle(value)]
 fn pairs_of(
     alloc: Global,
     levels: u32,
-    count: usize,
+    count: StatedCount,
     bytes: &[u8],
 ) -> Result<(Items<(Value, Value)>, &[u8]), ReadError>
-    ensures { Gives (λ x. (x.0, x.1.now)) result (many_at (both_at (value_at levels) (value_at levels)) count bytes.now) }
+    ensures { ReaderAnswers (λ x. (x.0, x.1.now))
+        result (many_at (both_at (value_at levels) (value_at levels)) count.items bytes.now) }
 {
-    let mut pairs = room_for(alloc, first_room(count), bytes)?;
-    let mut rest = bytes;
-    for _ in 0..count {
+    let mut pairs = room_for(alloc, count.first_room(bytes), bytes)?;
+    let (mut left, mut rest) = (count, bytes);
+    'each: while left.take_one() {
         let (key, after) = value_of(alloc, levels, rest)?;
         let (value, after) = value_of(alloc, levels, after)?;
         pairs.push((key, value))?;

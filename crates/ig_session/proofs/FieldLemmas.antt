@@ -14,9 +14,9 @@ use Rattle.ig_value.specs.Canon.{IsSendable}
 use Rattle.ig_value.specs.Spells.{Spells}
 use Rattle.ig_value.specs.Stops.{Stops}
 use Rattle.ig_value.specs.Reading.{Read, scalar_at, scalar_of, both_at, reading}
-use Rattle.ig_value.proofs.Items.{item_short, item_whole}
-use Rattle.ig_value.proofs.Values.{value_agrees}
-use Rattle.ig_value.proofs.Public.{canon_is_shortest}
+use Rattle.ig_value.proofs.ItemLemmas.{item_short, item_whole}
+use Rattle.ig_value.proofs.ValueLemmas.{value_agrees}
+use Rattle.ig_value.proofs.LawLemmas.{canon_is_shortest}
 use Rattle.ig_session.specs.Requests.{cache_at, get_at, put_at, whole}
 use Rattle.ig_session.specs.Fields.{StopsAt, ReadsEnd, IsNotWhole}
 use Rattle.ig_session.specs.declared.ops.Unread.{Unread}

@@ -11,12 +11,12 @@ use Rattle.std.specs.Map.{lookup, set_value}
 use Rattle.std.specs.FinMap as finite
 use Rattle.ig_value.specs.declared.value.Value.{Value}
 use Rattle.ig_value.specs.declared.value.Value.TheVariants.{Null}
-use Rattle.ig_value.specs.Canon.{Canon}
+use Rattle.ig_value.specs.Canon.{Canon, IsSendable}
 use Rattle.ig_value.specs.Limits.{Fits}
 use Rattle.ig_value.specs.Reading.{reading}
 use Rattle.ig_value.specs.Spells.{Spells}
-use Rattle.ig_value.proofs.Public.{canon_spells}
-use Rattle.ig_value.proofs.Values.{value_agrees}
+use Rattle.ig_value.proofs.LawLemmas.{canon_spells}
+use Rattle.ig_value.proofs.ValueLemmas.{value_agrees}
 use Rattle.ig_session.specs.Caches.{value_in, with_row, held}
 use Rattle.ig_session.specs.Rows.{read_key, key_of, row_of, rows_of}
 
@@ -48,10 +48,10 @@ again : {X : Type 0} (a : Bool) (x y z : X) → cond a x (cond a y z) ≡ cond a
 again true x y z = refl
 again false x y z = refl
 
--- a canonical encoding is read as its key
-key_of-Canon : (key : Value) → Fits key → key_of (Canon key) ≡ key
+-- a canonical form is read as its key
+key_of-Canon : (key : Value) → Fits key → IsSendable key → key_of (Canon key) ≡ key
 unfolding reading Spells
-key_of-Canon key fits = ap (λ (l : List ℕ). read_key (reading l)) (sym (append-nil (Canon key))) ∙ ap read_key ((value_agrees 32).again (Canon key) key [] (canon_spells key fits))
+key_of-Canon key fits sendable = ap (λ (l : List ℕ). read_key (reading l)) (sym (append-nil (Canon key))) ∙ ap read_key ((value_agrees 32).again (Canon key) key [] (canon_spells key fits sendable))
 
 module _ {K : Type 0} (bytes : K → List ℕ) where
   -- the row that stands by bytes
@@ -127,11 +127,11 @@ module _ {K : Type 0} (bytes : K → List ℕ) where
           ∙ apart (ties q (bytes e.0)) (ties q (bytes k)) old new (row_at q entries)
           (λ a b. let tied : is_eq (order k e.0) ≡ true = same_tied (bytes k) (bytes e.0) (sym (tied_same q (bytes k) b) ∙ tied_same q (bytes e.0) a) in cc)
 
-  pub rows_inserted : (entries others : List (K × Value)) (k : K) (form : List ℕ) (key value : Value) → Fits key → bytes k ≡ form → form ≡ Canon key → others ≡ insert_entry order entries k value
+  pub rows_inserted : (entries others : List (K × Value)) (k : K) (form : List ℕ) (key value : Value) → Fits key → IsSendable key → bytes k ≡ form → form ≡ Canon key → others ≡ insert_entry order entries k value
       → rows_of bytes others ≡ with_row (rows_of bytes entries) key value
-  rows_inserted entries others k form key value fits spelled same is =
+  rows_inserted entries others k form key value fits sendable spelled same is =
       let at : bytes k ≡ Canon key = spelled ∙ same in
-      ap (rows_of bytes) is ∙ one_put entries (insert_entry order entries k value) key value (key_of-Canon key fits) (λ q.
+      ap (rows_of bytes) is ∙ one_put entries (insert_entry order entries k value) key value (key_of-Canon key fits sendable) (λ q.
       row_at-insert entries k value q ∙ ap (λ (l : List ℕ). cond (ties q l) (Some (key_of l, value)) (row_at q entries)) at)
 
   -- the value of an entry that stands was set
@@ -153,8 +153,8 @@ module _ {K : Type 0} (bytes : K → List ℕ) where
         (λ a b. let tied : ties form (bytes e.0) ≡ true = same_tied form (bytes e.0) (sym (tied_same q form b) ∙ tied_same q (bytes e.0) a) in cc)
   ]
 
-  pub rows_set : (entries others : List (K × Value)) (form : List ℕ) (key value was : Value) → Fits key → form ≡ Canon key → entry_at form entries ≡ Some was
+  pub rows_set : (entries others : List (K × Value)) (form : List ℕ) (key value was : Value) → Fits key → IsSendable key → form ≡ Canon key → entry_at form entries ≡ Some was
       → others ≡ set_value (is_at (λ (k : K). by_bytes form (bytes k))) entries value → rows_of bytes others ≡ with_row (rows_of bytes entries) key value
-  rows_set entries others form key value was fits same stands is =
-      ap (rows_of bytes) is ∙ one_put entries (set_value (is_at (λ (k : K). by_bytes form (bytes k))) entries value) key value (key_of-Canon key fits) (λ q.
+  rows_set entries others form key value was fits sendable same stands is =
+      ap (rows_of bytes) is ∙ one_put entries (set_value (is_at (λ (k : K). by_bytes form (bytes k))) entries value) key value (key_of-Canon key fits sendable) (λ q.
       row_at-set entries form value was q stands ∙ ap (λ (l : List ℕ). cond (ties q l) (Some (key_of l, value)) (row_at q entries)) same)

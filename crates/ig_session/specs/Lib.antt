@@ -5,6 +5,7 @@ pub mod Hellos
 pub mod Requests
 pub mod Fields
 pub mod Replies
+pub mod RoundTrip
 pub mod Histories
 pub mod Deals
 pub mod Given

@@ -2,7 +2,7 @@
 
 ghost use Rattle.std.specs.Prelude.{◌≡◌, IfOk, IfErr, OnOk, OnErr};
 ghost use Rattle.ig_value.specs.declared.value.Value.{Value};
-ghost use Rattle.ig_value.specs.Canon.{Canon};
+ghost use Rattle.ig_value.specs.Canon.{Canon, IsSendable};
 ghost use Rattle.ig_value.specs.Limits.{Fits};
 ghost use Rattle.ig_session.specs.Caches.{value_in, with_row};
 ghost use Rattle.ig_session.specs.Rows.{rows_of};
@@ -102,9 +102,8 @@ fn set(
     form: &[u8],
     value: Value,
 ) -> Result<(), NoRoom<Value>>
-    ensures ok { OnOk result ((key : Value) → Fits key → form.now ≡ Canon key
-        → rows_of (λ k. k.items) rows.new.entries
-        ≡ with_row (rows_of (λ k. k.items) rows.old.entries) key value) }
+    ensures ok { OnOk result ((key : Value) → Fits key → IsSendable key → form.now ≡ Canon key
+        → rows_of (λ k. k.items) rows.new.entries ≡ with_row (rows_of (λ k. k.items) rows.old.entries) key value) }
     ensures back { IfErr result (λ e. e.back ≡ value) }
     ensures err { OnErr result (rows.new.entries ≡ rows.old.entries) }
 {

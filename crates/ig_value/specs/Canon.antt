@@ -1,4 +1,4 @@
--- The one canonical spelling of a value.
+-- The canonical form of a value: the one encoding that is written.
 use Rattle.std.specs.Prelude.{ℕ, pos, List, [], ◌∷◌, ◌++◌, length, Option, None, Some, ◌<◌, ◌^◌}
 use Rattle.std.specs.Int.{w32}
 use Rattle.std.specs.List.{flat_map}
@@ -14,7 +14,7 @@ use Rattle.ig_value.specs.Part.{Part, nothing, scalar, i32, i64, u64, text, octe
 use Rattle.ig_value.specs.Table.{byte_of, content, parts}
 use Rattle.ig_value.specs.Spells.{scalar_bytes}
 
--- an Int32 count, and bytes
+-- an Int32 count, and the bytes
 abbrev pub counted_bytes : List ℕ → List ℕ
 counted_bytes bytes = LE w32 (pos (length bytes)) ++ bytes
 
@@ -32,7 +32,7 @@ stamp_bytes x = scalar_bytes i64 x.millis ++ scalar_bytes i32 x.nanos
 abbrev pub decimal_bytes : Dec → List ℕ
 decimal_bytes x = scalar_bytes i32 x.scale ++ counted_bytes x.bytes
 
--- the bytes of a part, where inner gives those of a value inside
+-- the bytes of a part, where `inner` gives those of a value inside
 abbrev pub part_bytes : {X : Type 0} → (X → List ℕ) → (p : Part) → Content X p → List ℕ
 part_bytes inner nothing x = []
 part_bytes inner (scalar k) x = scalar_bytes k x
@@ -46,14 +46,14 @@ part_bytes inner (both p q) x = part_bytes inner p x.0 ++ part_bytes inner q x.1
 part_bytes inner (counted p q) x = LE w32 (pos (length x.1)) ++ (part_bytes inner p x.0 ++ flat_map (part_bytes inner q) x.1)
 part_bytes inner (optional c p) x = optional_bytes (byte_of c) (part_bytes inner p) x
 
--- one level: the code, and the bytes of the content
+-- the bytes of a value, where `inner` gives those of a value inside: the code, and the content
 abbrev pub layer_bytes : {X : Type 0} → (X → List ℕ) → Value-F X → List ℕ
 layer_bytes inner x = byte_of (parts x).0 ∷ part_bytes inner (content (parts x).0) (parts x).1
 
--- the canonical spelling
+-- the canonical form of a value
 unfoldable pub Canon : Value → List ℕ
 Canon = fold-Value (List ℕ) (layer_bytes (λ bytes. bytes))
 
--- its length is an Int32
+-- an Int32 counts the bytes of its canonical form: at most 2^31 - 1
 abbrev pub IsSendable : Value → Type 0
 IsSendable v = length (Canon v) < 2 ^ 31

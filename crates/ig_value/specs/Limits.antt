@@ -1,8 +1,12 @@
--- What every value keeps: at most 32 levels, lists and texts that an Int32 counts, numbers of their types, texts of UTF-8.
+-- The limits of values: at most 32 levels, at most 2^31 - 1 bytes or items in each text and list,
+-- numbers in the range of their types, texts of UTF-8.
 use Rattle.std.specs.Prelude.{ℕ, zero, suc, ◌+◌, ◌<◌, ◌^◌, max, List, [], ◌∷◌, length, sum_by, Option, None, Some}
 use Rattle.std.specs.List.{AllByRecursion, flat_map}
 use Rattle.std.specs.Str.{IsUtf8}
 use Rattle.ig_base.specs.Numbers.{AreBytes}
+use Rattle.ig_base.specs.declared.NodeId.{NodeId}
+use Rattle.ig_value.specs.declared.value.Dec.{Dec}
+use Rattle.ig_value.specs.declared.value.Stamp.{Stamp}
 use Rattle.ig_value.specs.declared.value.Value.{Value, out-Value}
 use Rattle.ig_value.specs.declared.value.Value.TheOpen.{Value-F}
 use Rattle.ig_value.specs.declared.value.Value.TheFolds.{fold-Value}
@@ -14,25 +18,38 @@ use Rattle.ig_value.specs.Spells.{IsInRange}
 abbrev pub AreCountable : List ℕ → Type 0
 AreCountable bytes = AreBytes bytes × (length bytes < 2 ^ 31)
 
+-- a text of UTF-8 that an Int32 counts
+abbrev pub IsLimitedText : List ℕ → Type 0
+IsLimitedText x = AreCountable x × IsUtf8 x
+
+abbrev pub IsLimitedUuid : NodeId → Type 0
+IsLimitedUuid x = IsInRange u64 x.most × IsInRange u64 x.least
+
+abbrev pub IsLimitedStamp : Stamp → Type 0
+IsLimitedStamp x = IsInRange i64 x.millis × IsInRange i32 x.nanos
+
+abbrev pub IsLimitedDecimal : Dec → Type 0
+IsLimitedDecimal x = IsInRange i32 x.scale × AreCountable x.bytes
+
 abbrev pub IfThere : {A : Type 0} → (A → Type 0) → Option A → Type 0
 IfThere P None = Unit {0}
 IfThere P (Some x) = P x
 
--- the part keeps to the limits, where a value inside keeps to inner
+-- the part keeps to the limits, where `inner` says so of a value inside
 abbrev pub FitsPart : {X : Type 0} → (X → Type 0) → (p : Part) → Content X p → Type 0
 FitsPart inner nothing x = Unit {0}
 FitsPart inner (scalar k) x = IsInRange k x
-FitsPart inner text x = AreCountable x × IsUtf8 x
+FitsPart inner text x = IsLimitedText x
 FitsPart inner octets x = AreCountable x
-FitsPart inner uuid x = IsInRange u64 x.most × IsInRange u64 x.least
-FitsPart inner stamp x = IsInRange i64 x.millis × IsInRange i32 x.nanos
-FitsPart inner decimal x = IsInRange i32 x.scale × AreCountable x.bytes
+FitsPart inner uuid x = IsLimitedUuid x
+FitsPart inner stamp x = IsLimitedStamp x
+FitsPart inner decimal x = IsLimitedDecimal x
 FitsPart inner value x = inner x
 FitsPart inner (both p q) x = FitsPart inner p x.0 × FitsPart inner q x.1
 FitsPart inner (counted p q) x = (length x.1 < 2 ^ 31) × (FitsPart inner p x.0 × AllByRecursion (FitsPart inner q) x.1)
 FitsPart inner (optional c p) x = IfThere (FitsPart inner p) x
 
--- the value keeps to the limits and is at most so many levels deep
+-- the value keeps to the limits and is at most this many levels deep
 abbrev pub FitsTo : ℕ → Value → Type 0
 FitsTo zero v = ⊥
 FitsTo (suc levels) v = let p = parts (out-Value v) in FitsPart (FitsTo levels) (content p.0) p.1
@@ -43,22 +60,22 @@ Fits = FitsTo 32
 
 -- ---- depth
 
--- the values directly inside
-abbrev pub inside : {X : Type 0} → Value-F X → List X
-inside (Value-F.Objects type xs) = xs
-inside (Value-F.Collection kind xs) = xs
-inside (Value-F.Map kind ps) = flat_map (λ p. p.0 ∷ p.1 ∷ []) ps
-inside (Value-F.Enums type xs) = xs
-inside _ = []
+-- the values directly inside a value
+abbrev pub children : {X : Type 0} → Value-F X → List X
+children (Value-F.Objects type xs) = xs
+children (Value-F.Collection kind xs) = xs
+children (Value-F.Map kind ps) = flat_map (λ p. p.0 ∷ p.1 ∷ []) ps
+children (Value-F.Enums type xs) = xs
+children _ = []
 
--- the greatest of the numbers, 0 without any
+-- the greatest of the numbers, or 0 without any
 abbrev pub greatest : List ℕ → ℕ
 greatest [] = 0
 greatest (n ∷ ns) = max n (greatest ns)
 
--- one more than the greatest depth of a value inside
+-- the depth of a value: 1, or one more than the greatest depth of a value inside
 unfoldable pub Depth : Value → ℕ
-Depth = fold-Value ℕ (λ x. suc (greatest (inside x)))
+Depth = fold-Value ℕ (λ x. suc (greatest (children x)))
 
 -- the greater depth of two values
 abbrev pub pair_depth : Value × Value → ℕ
@@ -66,8 +83,8 @@ pair_depth p = max (Depth p.0) (Depth p.1)
 
 -- ---- nodes
 
--- How many nodes a part has: each value inside has its own, and each number, each byte of a text and each item of a list
--- counts as one.
+-- The number of nodes of a part: those of each value inside, and one for each number, each byte of
+-- a text and each item of a list.
 abbrev pub part_nodes : {X : Type 0} → (X → ℕ) → (p : Part) → Content X p → ℕ
 part_nodes inner nothing x = 0
 part_nodes inner (scalar k) x = 1
@@ -82,6 +99,6 @@ part_nodes inner (counted p q) x = part_nodes inner p x.0 + sum_by (part_nodes i
 part_nodes inner (optional c p) None = 1
 part_nodes inner (optional c p) (Some x) = suc (part_nodes inner p x)
 
--- the value itself, and the nodes of its content
+-- the number of nodes of a value: itself, and the nodes of its content
 unfoldable pub Nodes : Value → ℕ
 Nodes = fold-Value ℕ (λ x. suc (part_nodes (λ n. n) (content (parts x).0) (parts x).1))

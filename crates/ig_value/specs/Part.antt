@@ -1,11 +1,11 @@
--- What a value's content is made of: parts, and what each of them holds.
+-- The parts that a value's content is made of, and what each of them holds.
 use Rattle.std.specs.Prelude.{ℕ, ℤ, Bool, List, Option}
 use Rattle.ig_base.specs.declared.NodeId.{NodeId}
 use Rattle.ig_value.specs.declared.code.Code.{Code}
 use Rattle.ig_value.specs.declared.value.Dec.{Dec}
 use Rattle.ig_value.specs.declared.value.Stamp.{Stamp}
 
--- a number or a truth value, of as many bytes as its kind says
+-- a number or a truth value, by its type
 pub data Scalar : Type 0 where
   i8 i16 i32 i64 u16 u32 u64 truth : Scalar
 
@@ -19,8 +19,9 @@ ScalarValue u32 = ℕ
 ScalarValue u64 = ℕ
 ScalarValue truth = Bool
 
--- `value` is a value inside, one level deeper; `both p q` is p and then q; `counted p q` is an Int32 count, p, and as
--- many of q as the count says; `optional c p` is the code of null, or the code c and then p
+-- `value` is a value inside, one level deeper; `both p q` is p and then q; `counted p q` is an
+-- Int32 count, p, and as many of q as the count says; `optional c p` is the code of null, or the
+-- code c and then p
 pub data Part : Type 0 where
   nothing : Part
   scalar : Scalar → Part

@@ -1,5 +1,5 @@
--- Reading from left to right: a value and the bytes behind it, or how many bytes are left where the first item stands that
--- is wrong, and why it is.
+-- Reading from left to right, as a function: a value and the bytes after it, or the number of bytes
+-- that are left where the first wrong item begins, and why it is wrong.
 use Rattle.std.specs.Prelude.{ℕ, zero, suc, pos, negsuc, ℤ, Bool, true, false, List, [], ◌∷◌, length, take, drop, slice_index, Option, None, Some, Result, Ok, Err, nat_lt, ◌==◌, if◌then◌else◌}
 use Rattle.std.specs.Int.{w8, w16, w32, w64, cast_signed, from_le_bytes}
 use Rattle.std.specs.Str.{is_utf8}
@@ -12,14 +12,14 @@ use Rattle.ig_value.specs.declared.value.Stamp.{Stamp}
 use Rattle.ig_value.specs.declared.value.Value.{Value}
 use Rattle.ig_base.specs.declared.NodeId.{NodeId}
 use Rattle.ig_value.specs.Part.{Scalar, i8, i16, i32, i64, u16, u32, u64, truth, ScalarValue, Part, nothing, scalar, text, octets, uuid, stamp, decimal, value, both, counted, optional, Content}
-use Rattle.ig_value.specs.Table.{byte_of, content, build, code_at}
+use Rattle.ig_value.specs.Table.{byte_of, content, value_with, code_at}
 use Rattle.ig_value.specs.Stops.{scalar_len}
 
--- how many bytes are left, and the cause
+-- the number of bytes that are left at the first wrong item, and the cause
 abbrev pub Fault : Type 0
 Fault = ℕ × Cause
 
--- what was read and the bytes behind it, or the first fault
+-- what was read and the bytes after it, or the first fault
 abbrev pub Read : Type 0 → Type 0
 Read A = Result (A × List ℕ) Fault
 
@@ -28,9 +28,9 @@ abbrev pub ◌>>=◌ : {A B : Type 0} → Result A Fault → (A → Result B Fau
 (Ok x) >>= f = f x
 (Err e) >>= f = Err e
 
--- what was read, seen by f
-abbrev pub seen : {A B : Type 0} → (A → B) → Read A → Read B
-seen f r = r >>= λ x. Ok (f x.0, x.1)
+-- the same reading, with what was read turned by f
+abbrev pub mapped_read : {A B : Type 0} → (A → B) → Read A → Read B
+mapped_read f r = r >>= λ x. Ok (f x.0, x.1)
 
 abbrev pub nothing_at : List ℕ → Read (Unit {0})
 nothing_at s = Ok (tt, s)
@@ -40,7 +40,7 @@ nothing_at s = Ok (tt, s)
 abbrev pub truth_of : ℕ → Result Bool Cause
 truth_of b = if b == 0 then Ok false else if b == 1 then Ok true else Err (cause.Bool b)
 
--- the scalar that as many bytes as it takes are
+-- the scalar that these bytes encode, which are as many as it has
 abbrev pub scalar_of : (k : Scalar) → List ℕ → Result (ScalarValue k) Cause
 scalar_of i8 s = Ok (cast_signed w8 (from_le_bytes w8 s))
 scalar_of i16 s = Ok (cast_signed w16 (from_le_bytes w16 s))
@@ -51,19 +51,20 @@ scalar_of u32 s = Ok (from_le_bytes w32 s)
 scalar_of u64 s = Ok (from_le_bytes w64 s)
 scalar_of truth s = truth_of (slice_index s 0)
 
--- a scalar before these bytes, or its cause with so many left
-abbrev pub found : {A : Type 0} → ℕ → List ℕ → Result A Cause → Read A
-found left rest (Ok x) = Ok (x, rest)
-found left rest (Err c) = Err (left, c)
+-- the reading of an item with these bytes after it, or the fault at the item, where `left` bytes
+-- are left
+abbrev pub item_read : {A : Type 0} → ℕ → List ℕ → Result A Cause → Read A
+item_read left rest (Ok x) = Ok (x, rest)
+item_read left rest (Err c) = Err (left, c)
 
--- an item of so many bytes, which of makes of them
+-- an item of n bytes, which `of` decodes
 abbrev pub item_at : {A : Type 0} → ℕ → (List ℕ → Result A Cause) → List ℕ → Read A
-item_at n of s = if nat_lt (length s) n then Err (length s, cause.Short) else found (length s) (drop n s) (of (take n s))
+item_at n of s = if nat_lt (length s) n then Err (length s, cause.Short) else item_read (length s) (drop n s) (of (take n s))
 
 abbrev pub scalar_at : (k : Scalar) → List ℕ → Read (ScalarValue k)
 scalar_at k s = item_at (scalar_len k) (scalar_of k) s
 
--- ---- bytes behind a count
+-- ---- counted bytes
 
 abbrev pub count_of : ℕ → ℤ × List ℕ → Read ℕ
 count_of left ((pos n), rest) = Ok (n, rest)
@@ -87,7 +88,7 @@ run_at n s = item_at n run_of s
 abbrev pub text_run_at : ℕ → List ℕ → Read (List ℕ)
 text_run_at n s = item_at n text_of s
 
--- ---- parts put together
+-- ---- several parts
 
 abbrev pub both_at : {A B : Type 0} → (List ℕ → Read A) → (List ℕ → Read B) → List ℕ → Read (A × B)
 both_at first second s = do
@@ -105,18 +106,18 @@ many_at one (suc n) s = do
 abbrev pub optional_at : {A : Type 0} → ℕ → (List ℕ → Read A) → List ℕ → Read (Option A)
 optional_at byte one [] = Err (0, cause.Short)
 optional_at byte one (b ∷ rest) =
-    if b == byte_of code.Null then Ok (None, rest) else if b == byte then seen Some (one rest) else Err (suc (length rest), cause.Code b)
+    if b == byte_of code.Null then Ok (None, rest) else if b == byte then mapped_read Some (one rest) else Err (suc (length rest), cause.Code b)
 
 abbrev pub uuid_at : List ℕ → Read NodeId
-uuid_at s = seen (λ x. record { most = x.0; least = x.1 }) (both_at (scalar_at u64) (scalar_at u64) s)
+uuid_at s = mapped_read (λ x. record { most = x.0; least = x.1 }) (both_at (scalar_at u64) (scalar_at u64) s)
 
 abbrev pub stamp_at : List ℕ → Read Stamp
-stamp_at s = seen (λ x. record { millis = x.0; nanos = x.1 }) (both_at (scalar_at i64) (scalar_at i32) s)
+stamp_at s = mapped_read (λ x. record { millis = x.0; nanos = x.1 }) (both_at (scalar_at i64) (scalar_at i32) s)
 
 abbrev pub decimal_at : List ℕ → Read Dec
-decimal_at s = seen (λ x. record { scale = x.0; bytes = x.1 }) (both_at (scalar_at i32) (counted_at run_at) s)
+decimal_at s = mapped_read (λ x. record { scale = x.0; bytes = x.1 }) (both_at (scalar_at i32) (counted_at run_at) s)
 
--- a part, where a value inside is read by inner
+-- a part, where `inner` reads a value inside
 abbrev pub part_at : {X : Type 0} → (List ℕ → Read X) → (p : Part) → List ℕ → Read (Content X p)
 part_at inner nothing s = nothing_at s
 part_at inner (scalar k) s = scalar_at k s
@@ -132,15 +133,15 @@ part_at inner (optional c p) s = optional_at (byte_of c) (part_at inner p) s
 
 -- ---- values
 
--- the content behind a code
+-- the content after a code
 abbrev pub content_at : (List ℕ → Read Value) → Code → List ℕ → Read Value
-content_at inner c s = seen (build c) (part_at inner (content c) s)
+content_at inner c s = mapped_read (value_with c) (part_at inner (content c) s)
 
 abbrev pub known_at : (List ℕ → Read Value) → ℕ → List ℕ → Option Code → Read Value
 known_at inner b rest None = Err (suc (length rest), cause.Code b)
 known_at inner b rest (Some c) = content_at inner c rest
 
--- a value that is at most so many levels deep
+-- a value that is at most this many levels deep
 abbrev pub value_at : ℕ → List ℕ → Read Value
 value_at levels [] = Err (0, cause.Short)
 value_at zero (b ∷ rest) = Err (suc (length rest), cause.Depth)

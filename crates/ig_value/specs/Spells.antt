@@ -1,4 +1,4 @@
--- Which bytes spell which value. All of it is said of whole lists: nothing here reads from left to right.
+-- Which bytes encode which value, as a relation between whole lists and trees.
 use Rattle.std.specs.Prelude.{◌≡◌, ℕ, zero, suc, ◌<◌, ◌^◌, pos, true, false, List, [], ◌∷◌, ◌++◌, length, Option, None, Some, FitsSigned}
 use Rattle.std.specs.Int.{w8, w16, w32, w64}
 use Rattle.std.specs.Str.{IsUtf8}
@@ -45,38 +45,38 @@ IsRun n s bytes = (s ≡ bytes) × AreBytes bytes × (length bytes ≡ n)
 abbrev pub IsTextRun : ℕ → List ℕ → List ℕ → Type 0
 IsTextRun n s bytes = IsRun n s bytes × IsUtf8 bytes
 
--- ---- parts put together
+-- ---- several parts
 
--- P, and behind it Q
+-- an encoding by P, followed by one by Q
 pub record IsBoth {A B : Type 0} (P : List ℕ → A → Type 0) (Q : List ℕ → B → Type 0) (s : List ℕ) (x : A × B) : Type 0 where
-  pub front : List ℕ
-  pub back : List ℕ
-  pub whole : s ≡ front ++ back
-  pub first : P front x.0
-  pub second : Q back x.1
+  pub prefix : List ℕ
+  pub suffix : List ℕ
+  pub whole : s ≡ prefix ++ suffix
+  pub first : P prefix x.0
+  pub second : Q suffix x.1
 
--- an Int32 count, and behind it what the count says
+-- an Int32 count, and what follows it according to the count
 pub record IsCounted {A : Type 0} (P : ℕ → List ℕ → A → Type 0) (s : List ℕ) (x : A) : Type 0 where
   pub count : ℕ
-  pub back : List ℕ
+  pub suffix : List ℕ
   pub small : count < 2 ^ 31
-  pub whole : s ≡ LE w32 (pos count) ++ back
-  pub behind : P count back x
+  pub whole : s ≡ LE w32 (pos count) ++ suffix
+  pub after : P count suffix x
 
--- one P after the other
+-- an encoding by P of each item, in order
 abbrev pub IsEach : {A : Type 0} → (List ℕ → A → Type 0) → List ℕ → List A → Type 0
 IsEach P s [] = s ≡ []
-IsEach P s (x ∷ xs) = IsBoth P (λ back _. IsEach P back xs) s (x, xs)
+IsEach P s (x ∷ xs) = IsBoth P (λ suffix _. IsEach P suffix xs) s (x, xs)
 
--- n of them
+-- the same of n items
 abbrev pub IsMany : {A : Type 0} → (List ℕ → A → Type 0) → ℕ → List ℕ → List A → Type 0
 IsMany P n s xs = IsEach P s xs × (length xs ≡ n)
 
--- a code, and behind it the content
+-- a code, and its content
 pub record IsCoded {A : Type 0} (c : Code) (P : List ℕ → A → Type 0) (s : List ℕ) (x : A) : Type 0 where
-  pub back : List ℕ
-  pub whole : s ≡ byte_of c ∷ back
-  pub behind : P back x
+  pub suffix : List ℕ
+  pub whole : s ≡ byte_of c ∷ suffix
+  pub after : P suffix x
 
 -- the code of null, or this code and its content
 abbrev pub IsOptional : {A : Type 0} → Code → (List ℕ → A → Type 0) → List ℕ → Option A → Type 0
@@ -85,7 +85,7 @@ IsOptional c P s (Some x) = IsCoded c P s x
 
 -- ---- values
 
--- the bytes spell the part, where a value inside is spelled by inner
+-- the bytes encode the part, where `inner` says which bytes encode a value inside
 abbrev pub SpellsPart : {X : Type 0} → (List ℕ → X → Type 0) → (p : Part) → List ℕ → Content X p → Type 0
 SpellsPart inner nothing s x = s ≡ []
 SpellsPart inner (scalar k) s x = IsScalar k s x
@@ -99,11 +99,11 @@ SpellsPart inner (both p q) s x = IsBoth (SpellsPart inner p) (SpellsPart inner 
 SpellsPart inner (counted p q) s x = IsCounted (λ n. IsBoth (SpellsPart inner p) (IsMany (SpellsPart inner q) n)) s x
 SpellsPart inner (optional c p) s x = IsOptional c (SpellsPart inner p) s x
 
--- the bytes spell the value, which is at most so many levels deep
+-- the bytes encode the value, which is at most this many levels deep
 abbrev pub SpellsTo : ℕ → List ℕ → Value → Type 0
 SpellsTo zero s v = ⊥
 SpellsTo (suc levels) s v = let p = parts (out-Value v) in IsCoded p.0 (SpellsPart (SpellsTo levels) (content p.0)) s p.1
 
--- the bytes spell the value
+-- the bytes encode the value
 unfoldable pub Spells : List ℕ → Value → Type 0
 Spells = SpellsTo 32

@@ -1,4 +1,4 @@
--- The table of the codes: the byte of each, what stands behind it, and which value has it.
+-- The table of the codes: the byte of each, the parts of its content, and the value that it begins.
 use Rattle.std.specs.Prelude.{ℕ, List, [], ◌∷◌, Option, ◌==◌}
 use Rattle.std.specs.List.{find}
 use Rattle.ig_value.specs.declared.code.Code.{Code}
@@ -8,7 +8,7 @@ use Rattle.ig_value.specs.declared.value.Value.TheVariants as value
 use Rattle.ig_value.specs.declared.value.Value.TheOpen.{Value-F}
 use Rattle.ig_value.specs.Part.{i8, i16, i32, i64, u16, u32, u64, truth, Part, nothing, scalar, text, octets, uuid, stamp, decimal, value, both, counted, optional, array, Content}
 
--- the byte that stands for a code
+-- the byte of a code
 abbrev pub byte_of : Code → ℕ
 byte_of code.Byte = 1
 byte_of code.Short = 2
@@ -47,7 +47,7 @@ byte_of code.Times = 37
 byte_of code.BinaryEnum = 38
 byte_of code.Null = 101
 
--- what stands behind the code
+-- the content after a code
 abbrev pub content : Code → Part
 content code.Byte = scalar i8
 content code.Short = scalar i16
@@ -86,7 +86,7 @@ content code.Times = array (optional code.Time (scalar i64))
 content code.BinaryEnum = both (scalar i32) (scalar i32)
 content code.Null = nothing
 
--- a value's code, and what its content holds
+-- a value's code, and the content that it holds
 abbrev pub parts : {X : Type 0} → Value-F X → (c : Code) × Content X (content c)
 parts (Value-F.Byte n) = (code.Byte, n)
 parts (Value-F.Short n) = (code.Short, n)
@@ -126,48 +126,48 @@ parts (Value-F.BinaryEnum type ordinal) = (code.BinaryEnum, (type, ordinal))
 parts Value-F.Null = (code.Null, tt)
 
 -- the value with this code and this content
-abbrev pub build : (c : Code) → Content Value (content c) → Value
-build code.Byte n = value.Byte n
-build code.Short n = value.Short n
-build code.Int n = value.Int n
-build code.Long n = value.Long n
-build code.Float n = value.Float n
-build code.Double n = value.Double n
-build code.Char n = value.Char n
-build code.Bool b = value.Bool b
-build code.Str t = value.Str t
-build code.Uuid u = value.Uuid u
-build code.Date n = value.Date n
-build code.Bytes (tt, xs) = value.Bytes xs
-build code.Shorts (tt, xs) = value.Shorts xs
-build code.Ints (tt, xs) = value.Ints xs
-build code.Longs (tt, xs) = value.Longs xs
-build code.Floats (tt, xs) = value.Floats xs
-build code.Doubles (tt, xs) = value.Doubles xs
-build code.Chars (tt, xs) = value.Chars xs
-build code.Bools (tt, xs) = value.Bools xs
-build code.Strs (tt, xs) = value.Strs xs
-build code.Uuids (tt, xs) = value.Uuids xs
-build code.Dates (tt, xs) = value.Dates xs
-build code.Objects (type, (tt, xs)) = value.Objects type xs
-build code.Collection (kind, xs) = value.Collection kind xs
-build code.Map (kind, xs) = value.Map kind xs
-build code.Wrapped (bytes, offset) = value.Wrapped bytes offset
-build code.Enum (type, ordinal) = value.Enum type ordinal
-build code.Enums (type, (tt, xs)) = value.Enums type xs
-build code.Decimal d = value.Decimal d
-build code.Decimals (tt, xs) = value.Decimals xs
-build code.Timestamp t = value.Timestamp t
-build code.Timestamps (tt, xs) = value.Timestamps xs
-build code.Time n = value.Time n
-build code.Times (tt, xs) = value.Times xs
-build code.BinaryEnum (type, ordinal) = value.BinaryEnum type ordinal
-build code.Null x = value.Null
+abbrev pub value_with : (c : Code) → Content Value (content c) → Value
+value_with code.Byte n = value.Byte n
+value_with code.Short n = value.Short n
+value_with code.Int n = value.Int n
+value_with code.Long n = value.Long n
+value_with code.Float n = value.Float n
+value_with code.Double n = value.Double n
+value_with code.Char n = value.Char n
+value_with code.Bool b = value.Bool b
+value_with code.Str t = value.Str t
+value_with code.Uuid u = value.Uuid u
+value_with code.Date n = value.Date n
+value_with code.Bytes (tt, xs) = value.Bytes xs
+value_with code.Shorts (tt, xs) = value.Shorts xs
+value_with code.Ints (tt, xs) = value.Ints xs
+value_with code.Longs (tt, xs) = value.Longs xs
+value_with code.Floats (tt, xs) = value.Floats xs
+value_with code.Doubles (tt, xs) = value.Doubles xs
+value_with code.Chars (tt, xs) = value.Chars xs
+value_with code.Bools (tt, xs) = value.Bools xs
+value_with code.Strs (tt, xs) = value.Strs xs
+value_with code.Uuids (tt, xs) = value.Uuids xs
+value_with code.Dates (tt, xs) = value.Dates xs
+value_with code.Objects (type, (tt, xs)) = value.Objects type xs
+value_with code.Collection (kind, xs) = value.Collection kind xs
+value_with code.Map (kind, xs) = value.Map kind xs
+value_with code.Wrapped (bytes, offset) = value.Wrapped bytes offset
+value_with code.Enum (type, ordinal) = value.Enum type ordinal
+value_with code.Enums (type, (tt, xs)) = value.Enums type xs
+value_with code.Decimal d = value.Decimal d
+value_with code.Decimals (tt, xs) = value.Decimals xs
+value_with code.Timestamp t = value.Timestamp t
+value_with code.Timestamps (tt, xs) = value.Timestamps xs
+value_with code.Time n = value.Time n
+value_with code.Times (tt, xs) = value.Times xs
+value_with code.BinaryEnum (type, ordinal) = value.BinaryEnum type ordinal
+value_with code.Null x = value.Null
 
 -- all codes
 abbrev pub codes : List Code
 codes = code.Byte ∷ code.Short ∷ code.Int ∷ code.Long ∷ code.Float ∷ code.Double ∷ code.Char ∷ code.Bool ∷ code.Str ∷ code.Uuid ∷ code.Date ∷ code.Bytes ∷ code.Shorts ∷ code.Ints ∷ code.Longs ∷ code.Floats ∷ code.Doubles ∷ code.Chars ∷ code.Bools ∷ code.Strs ∷ code.Uuids ∷ code.Dates ∷ code.Objects ∷ code.Collection ∷ code.Map ∷ code.Wrapped ∷ code.Enum ∷ code.Enums ∷ code.Decimal ∷ code.Decimals ∷ code.Timestamp ∷ code.Timestamps ∷ code.Time ∷ code.Times ∷ code.BinaryEnum ∷ code.Null ∷ []
 
--- the code that a byte stands for
+-- the code of a byte, if any
 abbrev pub code_at : ℕ → Option Code
 code_at b = find (λ c. byte_of c == b) codes

@@ -1,18 +1,35 @@
-//! Why bytes are no value.
+//! Why bytes don't encode a value.
 
-/// What is wrong with the first part that is wrong, from the left.
+use std::fmt;
+
+/// What is wrong with the first wrong part, from the left.
 #[derive(Clone, Copy, Debug, PartialEq, Eq)]
 pub enum Cause {
-    /// The bytes end before the part does.
+    /// The input ends before the part does.
     Short,
-    /// No value has this code here.
+    /// This code byte can't stand here.
     Code(u8),
-    /// A truth value is neither 0 nor 1.
+    /// A truth value with this byte, which is neither 0 nor 1.
     Bool(u8),
     /// A text isn't UTF-8.
     Utf8,
-    /// A count is below 0.
+    /// A negative count.
     Count(i32),
-    /// A value stands more than 32 levels deep.
+    /// A value more than 32 levels deep.
     Depth,
 }
+
+impl fmt::Display for Cause {
+    fn fmt<W: fmt::Write>(&self, f: &mut fmt::Formatter<W>) -> fmt::Result {
+        match self {
+            Cause::Short => write!(f, "the value isn't whole"),
+            Cause::Code(code) => write!(f, "no value has the code {code} here"),
+            Cause::Bool(byte) => write!(f, "{byte} is no truth value"),
+            Cause::Utf8 => write!(f, "the text isn't UTF-8"),
+            Cause::Count(count) => write!(f, "the count {count} is negative"),
+            Cause::Depth => write!(f, "the value is more than 32 levels deep"),
+        }
+    }
+}
+
+impl std::error::Error for Cause {}

@@ -1,9 +1,9 @@
-//! The code byte that stands before each value.
+//! The code byte that begins each value.
 
 ghost use Rattle.std.specs.Prelude.{◌≡◌};
 ghost use Rattle.ig_value.specs.Table.{byte_of, code_at};
 
-/// What the byte before a value says of it. Each has the name of the variant of `Value` that it begins.
+/// The kinds of value, by their codes. Each has the name of its variant of `Value`.
 #[derive(Clone, Copy, Debug, PartialEq, Eq)]
 pub enum Code {
     Byte = 1,
@@ -45,7 +45,7 @@ pub enum Code {
 }
 
 impl Code {
-    /// The code that a byte stands for. `None` exactly where it stands for none.
+    /// The code of a byte, or `None` where no value has this code.
     pub fn of(byte: u8) -> Option<Code>
         ensures { result ≡ code_at byte }
     {
@@ -90,7 +90,7 @@ impl Code {
         })
     }
 
-    /// The byte that stands for the code.
+    /// The byte of the code.
     pub fn byte(self) -> u8
         ensures { result ≡ byte_of self }
     {

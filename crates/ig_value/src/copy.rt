@@ -8,7 +8,9 @@ use ig_base::{Items, NoMemory};
 use std::alloc::Global;
 
 impl Value {
-    /// An equal tree, in memory of its own.
+    /// An equal tree, in memory of its own. The recursion is as deep as the tree: for one beyond
+    /// the limits ([`Value::keeps_to_limits`]) the contract still holds, but the call stack may
+    /// overflow.
     #[cycle(copy)]
     pub fn copy(&self, alloc: Global) -> Result<Value, NoMemory>
         ensures { IfOk result (λ made. made ≡ self.now) }

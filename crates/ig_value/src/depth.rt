@@ -6,7 +6,9 @@ ghost use Rattle.ig_value.specs.Limits.{Depth, greatest, pair_depth};
 use crate::value::Value;
 
 impl Value {
-    /// The depth of the tree: 1, or one more than the greatest depth of a value inside.
+    /// The depth of the tree: 1, or one more than the greatest depth of a value inside. It visits
+    /// the whole tree, by a recursion as deep as the tree: ask [`Value::keeps_to_limits`] first
+    /// about a tree of unknown depth.
     #[cycle(depth)]
     pub fn depth(&self) -> u32
         requires { Depth self.now < 2 ^ 32 }
@@ -22,7 +24,7 @@ impl Value {
     }
 }
 
-/// The greatest depth of the values, 0 without any.
+/// The greatest depth of the values, or 0 without any.
 #[cycle(depth)]
 fn greatest_depth(values: &[Value]) -> u32
     requires { greatest (map Depth values.now) + 1 < 2 ^ 32 }
@@ -38,7 +40,7 @@ fn greatest_depth(values: &[Value]) -> u32
     greatest
 }
 
-/// The greatest depth of the values in the pairs, 0 without any.
+/// The greatest depth of the values in the pairs, or 0 without any.
 #[cycle(depth)]
 fn greatest_pair_depth(pairs: &[(Value, Value)]) -> u32
     requires { greatest (map pair_depth pairs.now) + 1 < 2 ^ 32 }

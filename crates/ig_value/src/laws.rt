@@ -1,17 +1,18 @@
 //! Laws of the grammar. These functions do nothing; their contracts say what holds of every input.
 
-ghost use Rattle.ig_value.specs.Laws.{EveryInputIsDecided, OneFrontSpells, OneStop, NoStopBehindValue, ReadIsSpelled, SpelledIsRead, ReadingStopsRightly, StopIsRead, SpelledFits, CanonSpells, CanonIsShortest, CanonTellsApart, ByteForEachNode, FitsIsShallow, FitsAtItsDepth};
+ghost use Rattle.ig_value.specs.Laws.{EveryInputIsDecided, OnePrefixSpells, OneStop, NoStopAfterValue, ReadIsSpelled, SpelledIsRead, ReadingStopsRightly, StopIsRead, SpelledFits, CanonSpells, CanonIsShortest, CanonTellsApart, ByteForEachNode, FitsIsShallow, FitsAtItsDepth};
 
-/// Of any bytes, exactly one of two things holds: exactly one front of them is a spelling, of exactly one value, or they
-/// stop being a value in exactly one place, for exactly one cause.
+/// Any byte string either has exactly one prefix that encodes a value, and exactly one value that
+/// it encodes, or stops being a value at exactly one offset, for exactly one cause.
 pub fn one_reading()
     ensures decided { EveryInputIsDecided }
-    ensures one_front { OneFrontSpells }
+    ensures one_prefix { OnePrefixSpells }
     ensures one_stop { OneStop }
-    ensures not_both { NoStopBehindValue }
+    ensures not_both { NoStopAfterValue }
 {}
 
-/// Reading as a function of the bytes gives the value that a front of them spells, and stops where they do, for their cause.
+/// Reading as a function of the bytes agrees with the grammar: it gives the value that a prefix
+/// encodes, and stops at the same offset for the same cause.
 pub fn one_reader()
     ensures read { ReadIsSpelled }
     ensures spelled { SpelledIsRead }
@@ -19,7 +20,8 @@ pub fn one_reader()
     ensures stopped { StopIsRead }
 {}
 
-/// A value that keeps to the limits has one canonical form, which is a spelling of it, the shortest, and of no other value.
+/// The canonical form of a sendable value encodes it, no encoding of it is shorter, and no other
+/// value has the same.
 pub fn one_form()
     ensures fits { SpelledFits }
     ensures spells { CanonSpells }
@@ -27,7 +29,8 @@ pub fn one_form()
     ensures apart { CanonTellsApart }
 {}
 
-/// A value is no larger than its spelling, and no deeper than the limits let it be.
+/// A value has no more nodes than an encoding of it has bytes, and a value within the limits is no
+/// deeper than they allow.
 pub fn bounded_trees()
     ensures nodes { ByteForEachNode }
     ensures shallow { FitsIsShallow }

@@ -1,4 +1,4 @@
-//! Comparing and copying what holds no value inside.
+//! Comparing and copying parts that hold no value.
 
 ghost use Rattle.std.specs.Prelude.{◌≡◌, ◌↔◌, IsTrue, IfOk};
 
@@ -6,16 +6,16 @@ use crate::value::{Dec, Stamp};
 use ig_base::{Items, NoMemory, NodeId, Octets, Text};
 use std::alloc::Global;
 
-/// What holds no value, and can be compared.
+/// A part that holds no value, and can be compared.
 pub(crate) trait Same {
     /// Whether both are equal.
     fn same(&self, other: &Self) -> bool
         ensures { IsTrue result ↔ (self.now ≡ other.now) };
 }
 
-/// What owns memory and holds no value.
+/// A part that owns memory and holds no value.
 pub(crate) trait Leaf: Same + Drop + Sized {
-    /// An equal one.
+    /// An equal part.
     fn copy(&self, alloc: Global) -> Result<Self, NoMemory>
         ensures { IfOk result (λ made. made ≡ self.now) };
 }
@@ -138,7 +138,7 @@ impl<T: Leaf> Leaf for Option<T> {
     }
 }
 
-/// Whether both lists have the equal items in the same order.
+/// Whether both lists have equal items in the same order.
 pub(crate) fn same_items<T: Same>(a: &[T], b: &[T]) -> bool
     ensures { IsTrue result ↔ (a.now ≡ b.now) }
 {

@@ -1,4 +1,10 @@
-//! Values of the protocol.
+//! Values of the protocol: the tree, its codes, and the grammar that says which bytes encode which
+//! tree.
+//!
+//! `Spells` in `specs/Spells.antt` says which bytes encode which value, `Stops` at which offset and
+//! for which cause bytes stop being a value, and `Canon` is the one encoding that this program
+//! writes. Decoder and encoder stand on these definitions, in crates of their own. The laws of the
+//! grammar are contracts of the functions in `laws.rt`.
 #![tactic(auto)]
 
 mod cause;
@@ -7,6 +13,8 @@ mod copy;
 mod depth;
 mod laws;
 mod leaves;
+mod limited;
+mod limits;
 mod same;
 mod value;
 
@@ -14,3 +22,6 @@ pub use cause::Cause;
 pub use code::Code;
 pub use laws::{bounded_trees, one_form, one_reader, one_reading};
 pub use value::{DEEPEST, Dec, Stamp, Value};
+
+#[cfg(test)]
+mod tests;

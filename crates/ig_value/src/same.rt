@@ -6,7 +6,9 @@ use crate::leaves::{Same, same_items};
 use crate::value::Value;
 
 impl Value {
-    /// Whether both trees are equal, in their kinds, their shape and everything that they hold.
+    /// Whether both trees are equal, in their kinds, their shape and all that they hold. The
+    /// recursion is as deep as the part that both have in common: for trees beyond the limits
+    /// ([`Value::keeps_to_limits`]) the call stack may overflow.
     #[cycle(same)]
     pub fn same(&self, other: &Value) -> bool
         ensures { IsTrue result ↔ (self.now ≡ other.now) }

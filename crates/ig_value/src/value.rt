@@ -5,7 +5,7 @@ use ig_base::{Items, NodeId, Octets, Text};
 /// A decimal number: `bytes` is the unscaled value as it was read, highest byte first.
 #[derive(Debug, Drop)]
 pub struct Dec {
-    /// How many digits stand behind the point; kept whatever it says.
+    /// How many digits stand after the decimal point. Any number is kept as it was read.
     pub scale: i32,
     pub bytes: Octets,
 }
@@ -20,10 +20,13 @@ pub struct Stamp {
 /// The greatest depth of a value.
 pub const DEEPEST: u32 = 32;
 
-/// A value, as a tree. Each variant is a row of the format, by its code; numbers are kept whatever they say.
+/// A value, as a tree. Each variant is a row of the format, with its code. Numbers are kept as they
+/// were read, also those without a meaning, as a kind of collection that nobody knows.
 ///
-/// A value keeps to the limits where it is at most [`DEEPEST`] levels deep and each text and list in it has at most
-/// 2^31 - 1 bytes or items: `Fits` in `specs/Limits.antt`.
+/// A value keeps to the limits where it is at most [`DEEPEST`] levels deep and each text and list
+/// in it has at most 2^31 - 1 bytes or items: `Fits` in `specs/Limits.antt`. Whatever is decoded
+/// does. A tree that a caller builds may break them: [`Value::keeps_to_limits`] tells, and it is
+/// safe to call on any tree.
 #[derive(Debug, Drop)]
 pub enum Value {
     /// Code 1.
@@ -80,7 +83,8 @@ pub enum Value {
         kind: i8,
         items: Items<Value>,
     },
-    /// Code 25: a map; the kind says which. Pairs are keys and their values, in the order in which they were read.
+    /// Code 25: a map; the kind says which. Pairs are keys and their values, in the order in which
+    /// they were read.
     Map {
         kind: i8,
         pairs: Items<(Value, Value)>,
@@ -90,7 +94,7 @@ pub enum Value {
         bytes: Octets,
         offset: i32,
     },
-    /// Code 28: an enum's literal, by its ordinal.
+    /// Code 28: a literal of an enum type, by its ordinal.
     Enum {
         type_id: i32,
         ordinal: i32,
@@ -112,7 +116,7 @@ pub enum Value {
     Time(i64),
     /// Code 37: times in milliseconds, or nulls.
     Times(Items<Option<i64>>),
-    /// Code 38: as 28, of an enum that is described elsewhere.
+    /// Code 38: as 28, for an enum type whose description is registered.
     BinaryEnum {
         type_id: i32,
         ordinal: i32,

@@ -1,7 +1,7 @@
 -- The depth of each variant, and the steps of the two loops.
 use Rattle.std.proofs.Common.{◌≡◌, ◌≤◌, max, map, ap, sym, arith, add-one}
 use Rattle.ig_value.specs.Limits.{Depth, greatest, pair_depth}
-use Rattle.ig_value.proofs.Depths.{greatest_item, greatest_more, Depth_objects, Depth_collection, Depth_map, Depth_enums, Depth_default}
+use Rattle.ig_value.proofs.DepthLemmas.{greatest_item, greatest_more, Depth_objects, Depth_collection, Depth_map, Depth_enums, Depth_default}
 use Rattle.ig_value.proofs.+depth.Goals as goal
 use Rattle.ig_value.proofs.+depth.Goals.{depth::greatest_depth-then-greatest-depth, depth::greatest_depth-else-greatest-depth, depth::greatest_pair_depth-then-greatest-first, depth::greatest_pair_depth-else-greatest-first, depth::greatest_pair_depth-then-greatest-second, depth::greatest_pair_depth-else-greatest-second}
 

@@ -1,5 +1,5 @@
 use Rattle.std.proofs.Common.{refl, arith}
-use Rattle.ig_decode.proofs.Outcome.{rest_within, is_found, byte_for_node, reads_ok, one_found, none_refused, left_within, is_refused, none_found, one_refused, reads_err}
+use Rattle.ig_decode.proofs.DecodeLemmas.{rest_within, is_found, byte_for_node, reads_ok, one_found, none_refused, left_within, is_refused, none_found, one_refused, reads_err}
 use Rattle.ig_decode.proofs.calls.decode_at.Goals as goal
 
 pub overflow_sub-result-in-Ok : goal.overflow_sub-result-in-Ok

@@ -1,6 +1,6 @@
 use Rattle.std.proofs.Common.{[], sym, ◌∙◌, true, false}
 use Rattle.std.proofs.lemmas.List.{append-nil}
-use Rattle.ig_decode.proofs.Outcome.{verdict}
+use Rattle.ig_decode.proofs.DecodeLemmas.{verdict}
 use Rattle.ig_decode.proofs.calls.is_canonical.Goals as goal
 use Rattle.ig_decode.proofs.calls.is_canonical.Goals.{then-decoded, else-decoded}
 

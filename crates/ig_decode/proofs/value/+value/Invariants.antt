@@ -1,13 +1,19 @@
-use Rattle.std.proofs.Common.{◌≡◌, ◌-◌, ◌+◌, ◌*◌}
+use Rattle.std.proofs.Common.{◌≡◌, ◌+◌, ◌*◌}
 use Rattle.ig_value.specs.Reading.{value_at, many_at, both_at}
-use Rattle.ig_decode.proofs.Loop.{with_front}
+use Rattle.ig_decode.proofs.LoopLemmas.{with_front}
 use Rattle.ig_decode.proofs.value.+value.Given as goal
 
-abbrev pub invariant-values_of-loop : goal.invariant-values_of-loop
-invariant-values_of-loop l = with_front l.values.items (many_at (value_at l.levels) (l.count - l.counter) l.rest) ≡ many_at (value_at l.levels) l.count l.bytes
+abbrev pub invariant-values_of-each : goal.invariant-values_of-each
+invariant-values_of-each l = with_front l.values.items (many_at (value_at l.levels) l.left.items l.rest) ≡ many_at (value_at l.levels) l.fn.count.items l.bytes
 
-abbrev pub invariant-pairs_of-loop : goal.invariant-pairs_of-loop
-invariant-pairs_of-loop l = with_front l.pairs.items (many_at (both_at (value_at l.levels) (value_at l.levels)) (l.count - l.counter) l.rest) ≡ many_at (both_at (value_at l.levels) (value_at l.levels)) l.count l.bytes
+abbrev pub decreases-values_of-each : goal.decreases-values_of-each
+decreases-values_of-each l = l.left.items
+
+abbrev pub invariant-pairs_of-each : goal.invariant-pairs_of-each
+invariant-pairs_of-each l = with_front l.pairs.items (many_at (both_at (value_at l.levels) (value_at l.levels)) l.left.items l.rest) ≡ many_at (both_at (value_at l.levels) (value_at l.levels)) l.fn.count.items l.bytes
+
+abbrev pub decreases-pairs_of-each : goal.decreases-pairs_of-each
+decreases-pairs_of-each l = l.left.items
 
 abbrev pub decreases-value_of : goal.decreases-value_of
 decreases-value_of l = 4 * l.levels

@@ -1,5 +1,5 @@
 use Rattle.std.proofs.Common.{arith, length-drop}
-use Rattle.ig_decode.specs.Answers.{IsFound, IsRefused}
+use Rattle.ig_decode.specs.DecodeAnswers.{IsFound, IsRefused}
 use Rattle.ig_session.proofs.FieldLemmas.{sendable, stop_within}
 use Rattle.ig_session.proofs.ops.item_at.Goals as goal
 

@@ -1,4 +1,4 @@
-use Rattle.ig_value.proofs.Public.{byte_for_each_node, fits_is_shallow, fits_at_its_depth}
+use Rattle.ig_value.proofs.LawLemmas.{byte_for_each_node, fits_is_shallow, fits_at_its_depth}
 use Rattle.ig_value.proofs.laws.bounded_trees.Goals as goal
 
 pub returns : goal.returns

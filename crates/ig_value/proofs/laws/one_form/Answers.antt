@@ -1,4 +1,4 @@
-use Rattle.ig_value.proofs.Public.{spelled_values_fit, canon_spells, canon_is_shortest, canon_tells_apart}
+use Rattle.ig_value.proofs.LawLemmas.{spelled_values_fit, canon_spells, canon_is_shortest, canon_tells_apart}
 use Rattle.ig_value.proofs.laws.one_form.Goals as goal
 
 pub returns : goal.returns

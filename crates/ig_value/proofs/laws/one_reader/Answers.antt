@@ -1,4 +1,4 @@
-use Rattle.ig_value.proofs.Public.{read_is_spelled, spelled_is_read, reading_stops_rightly, stop_is_read}
+use Rattle.ig_value.proofs.LawLemmas.{read_is_spelled, spelled_is_read, reading_stops_rightly, stop_is_read}
 use Rattle.ig_value.proofs.laws.one_reader.Goals as goal
 
 pub returns : goal.returns
