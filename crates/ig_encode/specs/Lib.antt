@@ -1,7 +1,6 @@
 pub mod Splice
-pub mod Counting
-pub mod Filling
-pub mod Widths
-pub mod Lists
-pub mod Heads
-pub mod RoundTrip
+pub mod LengthOutput
+pub mod WindowOutput
+pub mod ScalarLengths
+pub mod ListBytes
+pub mod HeadBytes

@@ -1,10 +1,10 @@
--- Writing bytes over others.
+-- Writing bytes over those of a list.
 use Rattle.std.specs.Prelude.{◌≡◌, ℕ, ◌+◌, ◌≤◌, List, [], ◌++◌, length, take, drop}
 use Rattle.std.proofs.Common.{sym, ap, ◌∙◌, append_assoc, arith, length-append, length-drop, length-take}
 use Rattle.std.proofs.Math.Seq.{drop-append-add}
 use Rattle.std.proofs.lemmas.List.{take_at, drop-drop, take-append-drop}
 
--- the list with these bytes at the place
+-- the list with these bytes over its own from an index on
 abbrev pub splice : List ℕ → ℕ → List ℕ → List ℕ
 splice into at bytes = take at into ++ (bytes ++ drop (at + length bytes) into)
 

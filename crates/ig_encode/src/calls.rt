@@ -1,18 +1,20 @@
-//! The calls that write.
+//! The calls that encode.
 
 ghost use Rattle.std.specs.Prelude.{◌≡◌, ◌-◌, ◌+◌, ◌^◌, ◌≤◌, ◌++◌, min, length, take, drop, replicate, OnOk, OnErr};
 ghost use Rattle.ig_value.specs.Canon.{Canon, IsSendable};
-ghost use Rattle.ig_encode.specs.RoundTrip.{CanonIsRead, DecodedAgain};
 
 use crate::length::Length;
-use crate::part::Part;
 use crate::walk::put_value;
+use crate::window::Window;
 use ig_base::{NoMemory, Octets};
 use ig_value::Value;
 use std::alloc::Global;
 use std::mem;
 
-/// How many bytes the canonical form has; `u128::MAX` where it has more. Takes no memory.
+/// The number of bytes of the canonical form; it saturates at `u128::MAX`. Takes no memory.
+///
+/// As all calls here it recurses as deep as the tree: for a tree beyond the limits
+/// (`Value::keeps_to_limits`) its contract still holds, but the call stack may overflow.
 pub fn canonical_len(value: &Value) -> u128
     ensures { result ≡ min (length (Canon value.now)) (2 ^ 128 - 1) }
 {
@@ -22,13 +24,13 @@ pub fn canonical_len(value: &Value) -> u128
     count.total()
 }
 
-/// Fills the slice with the canonical form from a place on, and answers how many bytes it filled: the slice's length, or
-/// what is left of the form, whichever is less. Takes no memory.
+/// Fills the slice with the bytes of the canonical form from an offset on. Answers how many bytes
+/// it filled: the slice's length, or what is left of the form, whichever is less. Takes no memory.
 pub fn encode_part(value: &Value, from: u64, into: &mut [u8]) -> usize
     ensures count { result ≡ min (length into.old) (length (Canon value.now) - from) }
     ensures bytes { into.new ≡ take result (drop from (Canon value.now)) ++ drop result into.old }
 {
-    let mut part = Part {
+    let mut part = Window {
         skip: from,
         filled: 0,
     };
@@ -36,7 +38,11 @@ pub fn encode_part(value: &Value, from: u64, into: &mut [u8]) -> usize
     part.filled
 }
 
-/// Appends the canonical form. It takes its room first, so an error leaves the bytes as they were.
+/// Appends the canonical form. It takes its memory first, so an error leaves the bytes as they
+/// were.
+///
+/// A tree beyond the limits (`Value::keeps_to_limits`) is written too, as deep as the call stack
+/// allows, but no decoder takes the bytes.
 pub fn encode(alloc: Global, value: &Value, out: &mut Octets) -> Result<(), NoMemory>
     requires { IsSendable value.now }
     ensures ok { OnOk result (out.new ≡ out.old ++ Canon value.now) }
@@ -45,7 +51,7 @@ pub fn encode(alloc: Global, value: &Value, out: &mut Octets) -> Result<(), NoMe
     encode_known(alloc, value, canonical_len(value) as usize, out)
 }
 
-/// The same where the caller knows how many bytes the canonical form has, and they aren't counted again.
+/// The same for a caller that knows the length of the canonical form, which isn't counted again.
 pub fn encode_known(
     alloc: Global,
     value: &Value,
@@ -66,7 +72,7 @@ pub fn encode_known(
     grown
 }
 
-/// Makes room for so many more bytes, which are 0.
+/// Appends this many bytes, which are 0.
 fn grow(bytes: &mut Vec<u8>, more: usize) -> Result<(), NoMemory>
     ensures ok { OnOk result (bytes.new.items ≡ bytes.old.items ++ replicate more 0) }
     ensures err { OnErr result (bytes.new.items ≡ bytes.old.items) }
@@ -78,7 +84,7 @@ fn grow(bytes: &mut Vec<u8>, more: usize) -> Result<(), NoMemory>
     Ok(())
 }
 
-/// Writes the canonical form over the bytes from a place on.
+/// Writes the canonical form over the bytes from an offset on.
 fn fill(value: &Value, start: usize, bytes: &mut Vec<u8>)
     requires { start + length (Canon value.now) ≡ length bytes.old.items }
     ensures { bytes.new.items ≡ take start bytes.old.items ++ Canon value.now }
@@ -86,9 +92,3 @@ fn fill(value: &Value, start: usize, bytes: &mut Vec<u8>)
     let (_, room) = bytes.as_mut_slice().split_at_mut(start);
     encode_part(value, 0, room);
 }
-
-/// What is written is read again, whatever follows it.
-pub fn round_trip()
-    ensures read { CanonIsRead }
-    ensures decoded { DecodedAgain }
-{}

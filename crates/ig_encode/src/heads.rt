@@ -1,12 +1,12 @@
-//! What stands between a code and the items behind it.
+//! What comes between a code and the items.
 
-/// How many items there are, an Int32.
+/// The number of items, an Int32.
 #[derive(Drop)]
 pub(crate) struct Count {
     pub(crate) items: usize,
 }
 
-/// How many items there are, an Int32, and their kind.
+/// The number of items, an Int32, and the kind of their list.
 #[derive(Drop)]
 pub(crate) struct Kinded {
     pub(crate) items: usize,

@@ -1,6 +1,6 @@
-//! Counting the bytes of a value.
+//! The length of a value.
 
-/// How many bytes there are: `high` times 2^64, and `low`.
+/// A number of bytes: `high` times 2^64, plus `low`.
 #[derive(Drop)]
 pub(crate) struct Length {
     pub(crate) low: u64,
@@ -10,7 +10,7 @@ pub(crate) struct Length {
 impl Length {
     ghost use Rattle.std.specs.Prelude.{◌≡◌, ◌+◌, ◌*◌, ◌-◌, ◌^◌, min};
 
-    /// No byte yet.
+    /// No bytes.
     pub(crate) fn new() -> Length
         ensures low { result.low ≡ 0 }
         ensures high { result.high ≡ 0 }
@@ -18,7 +18,7 @@ impl Length {
         Length { low: 0, high: 0 }
     }
 
-    /// How many bytes there are, up to `u128::MAX`.
+    /// The number of bytes; it saturates at `u128::MAX`.
     pub(crate) fn total(&self) -> u128
         ensures { result ≡ min (self.now.high * 2 ^ 64 + self.now.low) (2 ^ 128 - 1) }
     {

@@ -1,23 +1,23 @@
-//! Writing values: the one canonical form, as a whole or from any place on.
+//! Encoding values: the one canonical form of a value, as a whole or from any offset on.
 //!
-//! One walk over the value gives its bytes in their order to a sink. [`canonical_len`] counts them, [`encode_part`] fills a
-//! slice with those from a place on, and [`encode`] makes room once and fills it. Lists of numbers and texts that come
-//! before the place are passed as a whole.
+//! One walk over the value puts its bytes, in order, to an output. [`canonical_len`] counts them,
+//! [`encode_part`] fills a slice with those from an offset on, and [`encode`] takes memory once and
+//! fills it. Texts and lists of numbers before the offset are skipped as a whole.
 #![tactic(auto)]
 
 mod calls;
-mod counting;
-mod filling;
 mod heads;
 mod length;
-mod part;
-mod sink;
+mod length_output;
+mod output;
 mod spell;
 mod spell_heads;
 mod splice;
 mod walk;
+mod window;
+mod window_output;
 
-pub use calls::{canonical_len, encode, encode_known, encode_part, round_trip};
+pub use calls::{canonical_len, encode, encode_known, encode_part};
 
 #[cfg(test)]
 mod tests;

@@ -1,4 +1,4 @@
-//! The parts of a value that hold no value.
+//! The bytes of the parts that hold no value.
 
 ghost use Rattle.std.specs.Prelude.{◌≡◌, ◌+◌, ◌<◌, ◌≤◌, ◌++◌, ◌∷◌, [], pos, List, ℕ, length};
 ghost use Rattle.std.specs.Int.{w32};
@@ -9,33 +9,33 @@ ghost use Rattle.ig_value.specs.Table.{byte_of};
 ghost use Rattle.ig_value.specs.Spells.{scalar_bytes};
 ghost use Rattle.ig_value.specs.Canon.{counted_bytes, optional_bytes, uuid_bytes, stamp_bytes, decimal_bytes};
 ghost use Rattle.ig_encode.specs.Splice.{splice as spliced};
-ghost use Rattle.ig_encode.specs.Widths.{wide_i8, wide_i16, wide_i32, wide_i64, wide_u16, wide_u32, wide_u64, wide_truth};
+ghost use Rattle.ig_encode.specs.ScalarLengths.{wide_i8, wide_i16, wide_i32, wide_i64, wide_u16, wide_u32, wide_u64, wide_truth};
 
-use crate::sink::Sink;
+use crate::output::Output;
 use crate::splice::copy_at;
 use ig_base::{NodeId, Octets, Text};
 use ig_value::{Code, Dec, Stamp};
 
-/// What has one spelling.
+/// A part with one encoding.
 pub(crate) trait Spell {
     ghost bytes: { Self → List ℕ };
 
     /// Puts its bytes.
-    fn put<S: Sink>(&self, out: &mut S, into: &mut [u8])
+    fn put<S: Output>(&self, out: &mut S, into: &mut [u8])
         ensures { (out.new, into.new) ≡ S.after out.old into.old (bytes self.now) };
 }
 
-/// What always has so many bytes.
-pub(crate) trait Element: Spell {
+/// A part with a fixed number of bytes.
+pub(crate) trait WriteElement: Spell {
     ghost byte_count: { ℕ };
 
-    /// How many bytes.
+    /// The number of bytes.
     fn width() -> usize
         ensures count { result ≡ byte_count }
         ensures some { 0 < result }
         ensures small { result ≤ 8 };
 
-    /// Writes its bytes at a place.
+    /// Writes its bytes into the slice at an index.
     fn write_at(&self, into: &mut [u8], at: usize)
         requires { at + byte_count ≤ length into.old }
         ensures { into.new ≡ spliced into.old at (Self.bytes self.now) };
@@ -47,7 +47,7 @@ pub(crate) trait Element: Spell {
 impl Spell for i8 {
     ghost bytes = { scalar_bytes scalar.i8 };
 
-    fn put<S: Sink>(&self, out: &mut S, into: &mut [u8]) {
+    fn put<S: Output>(&self, out: &mut S, into: &mut [u8]) {
         out.put(into, &self.to_le_bytes());
     }
 }
@@ -56,7 +56,7 @@ impl Spell for i8 {
 impl Spell for i16 {
     ghost bytes = { scalar_bytes scalar.i16 };
 
-    fn put<S: Sink>(&self, out: &mut S, into: &mut [u8]) {
+    fn put<S: Output>(&self, out: &mut S, into: &mut [u8]) {
         out.put(into, &self.to_le_bytes());
     }
 }
@@ -65,7 +65,7 @@ impl Spell for i16 {
 impl Spell for i32 {
     ghost bytes = { scalar_bytes scalar.i32 };
 
-    fn put<S: Sink>(&self, out: &mut S, into: &mut [u8]) {
+    fn put<S: Output>(&self, out: &mut S, into: &mut [u8]) {
         out.put(into, &self.to_le_bytes());
     }
 }
@@ -74,7 +74,7 @@ impl Spell for i32 {
 impl Spell for i64 {
     ghost bytes = { scalar_bytes scalar.i64 };
 
-    fn put<S: Sink>(&self, out: &mut S, into: &mut [u8]) {
+    fn put<S: Output>(&self, out: &mut S, into: &mut [u8]) {
         out.put(into, &self.to_le_bytes());
     }
 }
@@ -83,7 +83,7 @@ impl Spell for i64 {
 impl Spell for u16 {
     ghost bytes = { scalar_bytes scalar.u16 };
 
-    fn put<S: Sink>(&self, out: &mut S, into: &mut [u8]) {
+    fn put<S: Output>(&self, out: &mut S, into: &mut [u8]) {
         out.put(into, &self.to_le_bytes());
     }
 }
@@ -92,7 +92,7 @@ impl Spell for u16 {
 impl Spell for u32 {
     ghost bytes = { scalar_bytes scalar.u32 };
 
-    fn put<S: Sink>(&self, out: &mut S, into: &mut [u8]) {
+    fn put<S: Output>(&self, out: &mut S, into: &mut [u8]) {
         out.put(into, &self.to_le_bytes());
     }
 }
@@ -101,7 +101,7 @@ impl Spell for u32 {
 impl Spell for u64 {
     ghost bytes = { scalar_bytes scalar.u64 };
 
-    fn put<S: Sink>(&self, out: &mut S, into: &mut [u8]) {
+    fn put<S: Output>(&self, out: &mut S, into: &mut [u8]) {
         out.put(into, &self.to_le_bytes());
     }
 }
@@ -109,7 +109,7 @@ impl Spell for u64 {
 impl Spell for bool {
     ghost bytes = { scalar_bytes scalar.truth };
 
-    fn put<S: Sink>(&self, out: &mut S, into: &mut [u8]) {
+    fn put<S: Output>(&self, out: &mut S, into: &mut [u8]) {
         out.put(into, &[if *self { 1 } else { 0 }]);
     }
 }
@@ -117,7 +117,7 @@ impl Spell for bool {
 impl Spell for Text {
     ghost bytes = { counted_bytes };
 
-    fn put<S: Sink>(&self, out: &mut S, into: &mut [u8]) {
+    fn put<S: Output>(&self, out: &mut S, into: &mut [u8]) {
         put_bytes(self.as_str().as_bytes(), out, into);
     }
 }
@@ -125,7 +125,7 @@ impl Spell for Text {
 impl Spell for Octets {
     ghost bytes = { counted_bytes };
 
-    fn put<S: Sink>(&self, out: &mut S, into: &mut [u8]) {
+    fn put<S: Output>(&self, out: &mut S, into: &mut [u8]) {
         put_bytes(self.as_slice(), out, into);
     }
 }
@@ -133,7 +133,7 @@ impl Spell for Octets {
 impl Spell for NodeId {
     ghost bytes = { uuid_bytes };
 
-    fn put<S: Sink>(&self, out: &mut S, into: &mut [u8]) {
+    fn put<S: Output>(&self, out: &mut S, into: &mut [u8]) {
         self.most.put(out, into);
         self.least.put(out, into);
     }
@@ -142,7 +142,7 @@ impl Spell for NodeId {
 impl Spell for Stamp {
     ghost bytes = { stamp_bytes };
 
-    fn put<S: Sink>(&self, out: &mut S, into: &mut [u8]) {
+    fn put<S: Output>(&self, out: &mut S, into: &mut [u8]) {
         self.millis.put(out, into);
         self.nanos.put(out, into);
     }
@@ -151,14 +151,14 @@ impl Spell for Stamp {
 impl Spell for Dec {
     ghost bytes = { decimal_bytes };
 
-    fn put<S: Sink>(&self, out: &mut S, into: &mut [u8]) {
+    fn put<S: Output>(&self, out: &mut S, into: &mut [u8]) {
         self.scale.put(out, into);
         self.bytes.put(out, into);
     }
 }
 
 #[tactic(auto, unfolding(ig_base::specs::Numbers::LE))]
-impl Element for i8 {
+impl WriteElement for i8 {
     ghost byte_count = { 1 };
 
     ghost wide = { wide_i8 };
@@ -174,7 +174,7 @@ impl Element for i8 {
 }
 
 #[tactic(auto, unfolding(ig_base::specs::Numbers::LE))]
-impl Element for i16 {
+impl WriteElement for i16 {
     ghost byte_count = { 2 };
 
     ghost wide = { wide_i16 };
@@ -190,7 +190,7 @@ impl Element for i16 {
 }
 
 #[tactic(auto, unfolding(ig_base::specs::Numbers::LE))]
-impl Element for i32 {
+impl WriteElement for i32 {
     ghost byte_count = { 4 };
 
     ghost wide = { wide_i32 };
@@ -206,7 +206,7 @@ impl Element for i32 {
 }
 
 #[tactic(auto, unfolding(ig_base::specs::Numbers::LE))]
-impl Element for i64 {
+impl WriteElement for i64 {
     ghost byte_count = { 8 };
 
     ghost wide = { wide_i64 };
@@ -222,7 +222,7 @@ impl Element for i64 {
 }
 
 #[tactic(auto, unfolding(ig_base::specs::Numbers::LE))]
-impl Element for u16 {
+impl WriteElement for u16 {
     ghost byte_count = { 2 };
 
     ghost wide = { wide_u16 };
@@ -238,7 +238,7 @@ impl Element for u16 {
 }
 
 #[tactic(auto, unfolding(ig_base::specs::Numbers::LE))]
-impl Element for u32 {
+impl WriteElement for u32 {
     ghost byte_count = { 4 };
 
     ghost wide = { wide_u32 };
@@ -254,7 +254,7 @@ impl Element for u32 {
 }
 
 #[tactic(auto, unfolding(ig_base::specs::Numbers::LE))]
-impl Element for u64 {
+impl WriteElement for u64 {
     ghost byte_count = { 8 };
 
     ghost wide = { wide_u64 };
@@ -270,7 +270,7 @@ impl Element for u64 {
 }
 
 #[tactic(auto, unfolding(ig_base::specs::Numbers::LE))]
-impl Element for bool {
+impl WriteElement for bool {
     ghost byte_count = { 1 };
 
     ghost wide = { wide_truth };
@@ -287,14 +287,14 @@ impl Element for bool {
 
 /// Puts an Int32 count.
 #[tactic(auto, unfolding(ig_base::specs::Numbers::LE))]
-pub(crate) fn put_count<S: Sink>(count: usize, out: &mut S, into: &mut [u8])
+pub(crate) fn put_count<S: Output>(count: usize, out: &mut S, into: &mut [u8])
     ensures { (out.new, into.new) ≡ S.after out.old into.old (LE w32 (pos count)) }
 {
     let bytes = count.to_le_bytes();
     out.put(into, &bytes[..4]);
 }
 
-/// Writes an Int32 count at a place.
+/// Writes an Int32 count into the slice at an index.
 #[tactic(auto, unfolding(ig_base::specs::Numbers::LE))]
 #[inline(always)]
 pub(crate) fn write_count(count: usize, into: &mut [u8], at: usize)
@@ -306,7 +306,7 @@ pub(crate) fn write_count(count: usize, into: &mut [u8], at: usize)
 }
 
 /// Puts an Int32 count and the bytes.
-fn put_bytes<S: Sink>(bytes: &[u8], out: &mut S, into: &mut [u8])
+fn put_bytes<S: Output>(bytes: &[u8], out: &mut S, into: &mut [u8])
     ensures { (out.new, into.new) ≡ S.after out.old into.old (counted_bytes bytes.now) }
 {
     put_count(bytes.len(), out, into);

@@ -1,17 +1,17 @@
-//! Spelling counts and kinds.
+//! The bytes of counts and kinds.
 
 ghost use Rattle.std.specs.Prelude.{◌≡◌, ◌+◌, ◌<◌, ◌≤◌, ◌++◌, pos, List, ℕ, length};
-ghost use Rattle.ig_encode.specs.Heads.{count_bytes, kind_bytes, wide_count, wide_kind};
+ghost use Rattle.ig_encode.specs.HeadBytes.{count_bytes, kind_bytes, wide_count, wide_kind};
 ghost use Rattle.ig_encode.specs.Splice.{splice as spliced};
 
 use crate::heads::{Count, Kinded};
-use crate::sink::Sink;
-use crate::spell::{Element, Spell, put_count, write_count};
+use crate::output::Output;
+use crate::spell::{Spell, WriteElement, put_count, write_count};
 
 impl Spell for Count {
     ghost bytes = { count_bytes };
 
-    fn put<S: Sink>(&self, out: &mut S, into: &mut [u8]) {
+    fn put<S: Output>(&self, out: &mut S, into: &mut [u8]) {
         put_count(self.items, out, into);
     }
 }
@@ -19,13 +19,13 @@ impl Spell for Count {
 impl Spell for Kinded {
     ghost bytes = { kind_bytes };
 
-    fn put<S: Sink>(&self, out: &mut S, into: &mut [u8]) {
+    fn put<S: Output>(&self, out: &mut S, into: &mut [u8]) {
         put_count(self.items, out, into);
         self.kind.put(out, into);
     }
 }
 
-impl Element for Count {
+impl WriteElement for Count {
     ghost byte_count = { 4 };
 
     ghost wide = { wide_count };
@@ -40,7 +40,7 @@ impl Element for Count {
     }
 }
 
-impl Element for Kinded {
+impl WriteElement for Kinded {
     ghost byte_count = { 5 };
 
     ghost wide = { wide_kind };

@@ -1,4 +1,4 @@
-//! Values, whatever stands inside them.
+//! Values, and the values inside them.
 
 ghost use Rattle.std.specs.Prelude.{◌≡◌, ◌+◌, ◌*◌, ◌≤◌, ◌∷◌, ◌++◌, [], pos, length};
 ghost use Rattle.std.specs.Int.{w8, w32};
@@ -7,18 +7,18 @@ ghost use Rattle.ig_base.specs.Numbers.{LE};
 ghost use Rattle.ig_value.specs.Table.{byte_of};
 ghost use Rattle.ig_value.specs.Canon.{Canon, counted_bytes, optional_bytes};
 ghost use Rattle.ig_encode.specs.Splice.{splice};
-ghost use Rattle.ig_encode.specs.Lists.{array_bytes, kinded_bytes, pair_bytes};
+ghost use Rattle.ig_encode.specs.ListBytes.{array_bytes, kinded_bytes, pair_bytes};
 
 use crate::heads::{Count, Kinded};
-use crate::sink::Sink;
-use crate::spell::{Element, Spell, put_count, write_count};
+use crate::output::Output;
+use crate::spell::{Spell, WriteElement, put_count, write_count};
 use crate::splice::copy_at;
 use ig_base::Text;
 use ig_value::{Code, Value};
 
 /// Puts the canonical form of the value.
 #[cycle(value)]
-pub(crate) fn put_value<S: Sink>(value: &Value, out: &mut S, into: &mut [u8])
+pub(crate) fn put_value<S: Output>(value: &Value, out: &mut S, into: &mut [u8])
     ensures { (out.new, into.new) ≡ S.after out.old into.old (Canon value.now) }
 {
     match value {
@@ -99,16 +99,17 @@ pub(crate) fn put_value<S: Sink>(value: &Value, out: &mut S, into: &mut [u8])
 
 /// Puts a code.
 #[inline(always)]
-fn put_code<S: Sink>(code: Code, out: &mut S, into: &mut [u8])
+fn put_code<S: Output>(code: Code, out: &mut S, into: &mut [u8])
     ensures { (out.new, into.new) ≡ S.after out.old into.old (byte_of code ∷ []) }
 {
     out.put(into, &[code.byte()]);
 }
 
-/// Puts a code, and an element behind it: with one look at the room, where there is room for both.
+/// Puts a code and an element, with one look at the room where there is room for both.
 #[inline(always)]
-fn put_scalar<E: Element, S: Sink>(code: Code, element: &E, out: &mut S, into: &mut [u8])
-    ensures { (out.new, into.new) ≡ S.after out.old into.old (byte_of code ∷ E.Spell.bytes element.now) }
+fn put_scalar<E: WriteElement, S: Output>(code: Code, element: &E, out: &mut S, into: &mut [u8])
+    ensures { (out.new, into.new)
+        ≡ S.after out.old into.old (byte_of code ∷ E.Spell.bytes element.now) }
 {
     let width = 1 + E::width();
     if out.count(width) {
@@ -123,10 +124,11 @@ fn put_scalar<E: Element, S: Sink>(code: Code, element: &E, out: &mut S, into: &
     }
 }
 
-/// Puts a code, and a text behind it.
+/// Puts a code and a text.
 #[inline(never)]
-fn put_text<S: Sink>(code: Code, text: &Text, out: &mut S, into: &mut [u8])
-    ensures { (out.new, into.new) ≡ S.after out.old into.old (byte_of code ∷ counted_bytes text.now) }
+fn put_text<S: Output>(code: Code, text: &Text, out: &mut S, into: &mut [u8])
+    ensures { (out.new, into.new)
+        ≡ S.after out.old into.old (byte_of code ∷ counted_bytes text.now) }
 {
     let bytes = text.as_str().as_bytes();
     let Some(width) = bytes.len().checked_add(5) else {
@@ -146,35 +148,37 @@ fn put_text<S: Sink>(code: Code, text: &Text, out: &mut S, into: &mut [u8])
     }
 }
 
-/// Puts a code, and a part behind it.
+/// Puts a code and a part.
 #[inline(never)]
-fn put_row<T: Spell, S: Sink>(code: Code, part: &T, out: &mut S, into: &mut [u8])
+fn put_row<T: Spell, S: Output>(code: Code, part: &T, out: &mut S, into: &mut [u8])
     ensures { (out.new, into.new) ≡ S.after out.old into.old (byte_of code ∷ T.bytes part.now) }
 {
     put_code(code, out, into);
     part.put(out, into);
 }
 
-/// Puts a code, and two parts behind it.
+/// Puts a code and two parts.
 #[inline(never)]
-fn put_both<T: Spell, U: Spell, S: Sink>(
+fn put_both<T: Spell, U: Spell, S: Output>(
     code: Code,
     first: &T,
     second: &U,
     out: &mut S,
     into: &mut [u8],
 )
-    ensures { (out.new, into.new) ≡ S.after out.old into.old (byte_of code ∷ (T.bytes first.now ++ U.bytes second.now)) }
+    ensures { (out.new, into.new)
+        ≡ S.after out.old into.old (byte_of code ∷ (T.bytes first.now ++ U.bytes second.now)) }
 {
     put_code(code, out, into);
     first.put(out, into);
     second.put(out, into);
 }
 
-/// Puts a code, and an array of elements behind it.
+/// Puts a code and an array of elements.
 #[inline(never)]
-fn put_array<E: Element, S: Sink>(code: Code, elements: &[E], out: &mut S, into: &mut [u8])
-    ensures { (out.new, into.new) ≡ S.after out.old into.old (byte_of code ∷ array_bytes E.Spell.bytes elements.now) }
+fn put_array<E: WriteElement, S: Output>(code: Code, elements: &[E], out: &mut S, into: &mut [u8])
+    ensures { (out.new, into.new)
+        ≡ S.after out.old into.old (byte_of code ∷ array_bytes E.Spell.bytes elements.now) }
 {
     let count = Count {
         items: elements.len(),
@@ -183,8 +187,8 @@ fn put_array<E: Element, S: Sink>(code: Code, elements: &[E], out: &mut S, into:
     put_elements(elements, out, into);
 }
 
-/// Puts elements, one after the other. Those that come before the place aren't looked at.
-fn put_elements<E: Element, S: Sink>(elements: &[E], out: &mut S, into: &mut [u8])
+/// Puts elements, in order. It doesn't look at those that the output skips as a whole.
+fn put_elements<E: WriteElement, S: Output>(elements: &[E], out: &mut S, into: &mut [u8])
     ensures { (out.new, into.new) ≡ S.after out.old into.old (flat_map E.Spell.bytes elements.now) }
 {
     let passed = out.pass(into, E::width(), elements.len());
@@ -192,8 +196,8 @@ fn put_elements<E: Element, S: Sink>(elements: &[E], out: &mut S, into: &mut [u8
     put_rest(rest, out, into);
 }
 
-/// The same of elements of which none comes before the place as a whole.
-fn put_rest<E: Element, S: Sink>(elements: &[E], out: &mut S, into: &mut [u8])
+/// The same for elements of which none is skipped as a whole.
+fn put_rest<E: WriteElement, S: Output>(elements: &[E], out: &mut S, into: &mut [u8])
     ensures { (out.new, into.new) ≡ S.after out.old into.old (flat_map E.Spell.bytes elements.now) }
 {
     let (at, whole) = out.claim(into.len(), E::width(), elements.len());
@@ -202,8 +206,8 @@ fn put_rest<E: Element, S: Sink>(elements: &[E], out: &mut S, into: &mut [u8])
     put_parts(rest, out, into);
 }
 
-/// Writes elements at a place, one after the other.
-fn write_all<E: Element>(elements: &[E], into: &mut [u8], at: usize)
+/// Writes elements into the slice from an index on.
+fn write_all<E: WriteElement>(elements: &[E], into: &mut [u8], at: usize)
     requires { at + length elements.now * E.byte_count ≤ length into.old }
     ensures { into.new ≡ splice into.old at (flat_map E.Spell.bytes elements.now) }
 {
@@ -215,8 +219,8 @@ fn write_all<E: Element>(elements: &[E], into: &mut [u8], at: usize)
     }
 }
 
-/// Puts parts, one after the other.
-fn put_parts<T: Spell, S: Sink>(parts: &[T], out: &mut S, into: &mut [u8])
+/// Puts parts, in order.
+fn put_parts<T: Spell, S: Output>(parts: &[T], out: &mut S, into: &mut [u8])
     ensures { (out.new, into.new) ≡ S.after out.old into.old (flat_map T.bytes parts.now) }
 {
     for part in parts {
@@ -227,30 +231,32 @@ fn put_parts<T: Spell, S: Sink>(parts: &[T], out: &mut S, into: &mut [u8])
     }
 }
 
-/// Puts a code, and an array of parts or nulls behind it. A part stands behind its own code.
+/// Puts a code and an array of parts and nulls. Each part follows the inner code.
 #[inline(never)]
-fn put_optionals<T: Spell, S: Sink>(
+fn put_optionals<T: Spell, S: Output>(
     code: Code,
     inner: Code,
     parts: &[Option<T>],
     out: &mut S,
     into: &mut [u8],
 )
-    ensures { (out.new, into.new) ≡ S.after out.old into.old (byte_of code ∷ array_bytes (optional_bytes (byte_of inner) T.bytes) parts.now) }
+    ensures { (out.new, into.new)
+        ≡ S.after out.old into.old (byte_of code ∷ array_bytes (optional_bytes (byte_of inner) T.bytes) parts.now) }
 {
     let count = Count { items: parts.len() };
     put_scalar(code, &count, out, into);
     put_each_optional(inner, parts, out, into);
 }
 
-/// Puts nulls and parts, one after the other.
-fn put_each_optional<T: Spell, S: Sink>(
+/// Puts parts and nulls, in order.
+fn put_each_optional<T: Spell, S: Output>(
     inner: Code,
     parts: &[Option<T>],
     out: &mut S,
     into: &mut [u8],
 )
-    ensures { (out.new, into.new) ≡ S.after out.old into.old (flat_map (optional_bytes (byte_of inner) T.bytes) parts.now) }
+    ensures { (out.new, into.new)
+        ≡ S.after out.old into.old (flat_map (optional_bytes (byte_of inner) T.bytes) parts.now) }
 {
     for part in parts {
         if out.is_full(into) {
@@ -260,9 +266,10 @@ fn put_each_optional<T: Spell, S: Sink>(
     }
 }
 
-/// Puts null, or a part behind its code.
-fn put_optional<T: Spell, S: Sink>(code: Code, part: &Option<T>, out: &mut S, into: &mut [u8])
-    ensures { (out.new, into.new) ≡ S.after out.old into.old (optional_bytes (byte_of code) T.bytes part.now) }
+/// Puts null, or a code and its part.
+fn put_optional<T: Spell, S: Output>(code: Code, part: &Option<T>, out: &mut S, into: &mut [u8])
+    ensures { (out.new, into.new)
+        ≡ S.after out.old into.old (optional_bytes (byte_of code) T.bytes part.now) }
 {
     match part {
         None => put_code(Code::Null, out, into),
@@ -270,22 +277,24 @@ fn put_optional<T: Spell, S: Sink>(code: Code, part: &Option<T>, out: &mut S, in
     }
 }
 
-/// Puts a code, a type, and an array of values behind it.
+/// Puts a code, a type, and an array of values.
 #[cycle(value)]
 #[inline(never)]
-fn put_typed<S: Sink>(code: Code, type_id: &i32, values: &[Value], out: &mut S, into: &mut [u8])
-    ensures { (out.new, into.new) ≡ S.after out.old into.old (byte_of code ∷ (LE w32 type_id.now ++ array_bytes Canon values.now)) }
+fn put_typed<S: Output>(code: Code, type_id: &i32, values: &[Value], out: &mut S, into: &mut [u8])
+    ensures { (out.new, into.new)
+        ≡ S.after out.old into.old (byte_of code ∷ (LE w32 type_id.now ++ array_bytes Canon values.now)) }
 {
     put_row(code, type_id, out, into);
     put_count(values.len(), out, into);
     put_values(values, out, into);
 }
 
-/// Puts a code, a count, a kind, and values behind it.
+/// Puts a code, a count, a kind, and values.
 #[cycle(value)]
 #[inline(never)]
-fn put_collection<S: Sink>(code: Code, kind: &i8, values: &[Value], out: &mut S, into: &mut [u8])
-    ensures { (out.new, into.new) ≡ S.after out.old into.old (byte_of code ∷ kinded_bytes Canon kind.now values.now) }
+fn put_collection<S: Output>(code: Code, kind: &i8, values: &[Value], out: &mut S, into: &mut [u8])
+    ensures { (out.new, into.new)
+        ≡ S.after out.old into.old (byte_of code ∷ kinded_bytes Canon kind.now values.now) }
 {
     let kinded = Kinded {
         items: values.len(),
@@ -295,11 +304,12 @@ fn put_collection<S: Sink>(code: Code, kind: &i8, values: &[Value], out: &mut S,
     put_values(values, out, into);
 }
 
-/// Puts a code, a count, a kind, and pairs of values behind it.
+/// Puts a code, a count, a kind, and pairs of values.
 #[cycle(value)]
 #[inline(never)]
-fn put_map<S: Sink>(code: Code, kind: &i8, pairs: &[(Value, Value)], out: &mut S, into: &mut [u8])
-    ensures { (out.new, into.new) ≡ S.after out.old into.old (byte_of code ∷ kinded_bytes pair_bytes kind.now pairs.now) }
+fn put_map<S: Output>(code: Code, kind: &i8, pairs: &[(Value, Value)], out: &mut S, into: &mut [u8])
+    ensures { (out.new, into.new)
+        ≡ S.after out.old into.old (byte_of code ∷ kinded_bytes pair_bytes kind.now pairs.now) }
 {
     let kinded = Kinded {
         items: pairs.len(),
@@ -309,9 +319,9 @@ fn put_map<S: Sink>(code: Code, kind: &i8, pairs: &[(Value, Value)], out: &mut S
     put_pairs(pairs, out, into);
 }
 
-/// Puts values, one after the other.
+/// Puts values, in order.
 #[cycle(value)]
-fn put_values<S: Sink>(values: &[Value], out: &mut S, into: &mut [u8])
+fn put_values<S: Output>(values: &[Value], out: &mut S, into: &mut [u8])
     ensures { (out.new, into.new) ≡ S.after out.old into.old (flat_map Canon values.now) }
 {
     for value in values {
@@ -322,9 +332,9 @@ fn put_values<S: Sink>(values: &[Value], out: &mut S, into: &mut [u8])
     }
 }
 
-/// Puts pairs of values, one after the other.
+/// Puts pairs of values, in order.
 #[cycle(value)]
-fn put_pairs<S: Sink>(pairs: &[(Value, Value)], out: &mut S, into: &mut [u8])
+fn put_pairs<S: Output>(pairs: &[(Value, Value)], out: &mut S, into: &mut [u8])
     ensures { (out.new, into.new) ≡ S.after out.old into.old (flat_map pair_bytes pairs.now) }
 {
     for (key, value) in pairs {

@@ -1,7 +1,8 @@
 //! Times reading and writing values, beside the yardstick in `bench/values`.
 //!
-//! The words are a number of rounds, a name and a size. Without a name it takes each value once. Standard output has the
-//! bytes of each value's canonical form; the least times, in nanoseconds, go to standard error.
+//! The words are a number of rounds, a name and a size. Without a name it takes each value once.
+//! Standard output has the bytes of each value's canonical form; the least times, in nanoseconds,
+//! go to standard error.
 #![tactic(auto)]
 
 use anyhow::{Context, Result, bail, ensure};
@@ -149,3 +150,6 @@ fn main(rt: HostRuntime) -> Result<()> {
     }
     Ok(())
 }
+
+#[cfg(test)]
+mod tests;

@@ -5,4 +5,4 @@ use Rattle.ig_value.specs.Canon.{optional_bytes}
 use Rattle.ig_encode.proofs.walk.put_each_optional.Given as goal
 
 abbrev pub invariant-loop-part : goal.invariant-loop-part
-invariant-loop-part g l = (l.out, l.into) ≡ g.S.Sink.after l.initial.out l.initial.into (flat_map (optional_bytes (byte_of l.inner) g.T.Spell.bytes) (take l.part-index l.parts))
+invariant-loop-part g l = (l.out, l.into) ≡ g.S.Output.after l.initial.out l.initial.into (flat_map (optional_bytes (byte_of l.inner) g.T.Spell.bytes) (take l.part-index l.parts))

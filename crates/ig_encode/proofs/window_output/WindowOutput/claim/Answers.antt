@@ -1,8 +1,8 @@
 use Rattle.std.proofs.Common.{◌≡◌, [], sym, ap, ◌∙◌, arith}
 use Rattle.std.proofs.lemmas.List.{nil_from_length}
 use Rattle.ig_encode.specs.Splice.{splice_none}
-use Rattle.ig_encode.specs.Filling.{filled_empty, beside}
-use Rattle.ig_encode.proofs.filling.PartSink.claim.Goals as goal
+use Rattle.ig_encode.specs.WindowOutput.{filled_empty, beside}
+use Rattle.ig_encode.proofs.window_output.WindowOutput.claim.Goals as goal
 
 pub returns-then-self-gt0-clause-claimed : goal.returns-then-self-gt0-clause-claimed
 returns-then-self-gt0-clause-claimed c = λ into bytes room e.

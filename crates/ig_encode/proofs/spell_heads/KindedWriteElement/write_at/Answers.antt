@@ -1,9 +1,9 @@
 use Rattle.std.proofs.Common.{pos, length, ◌≡◌, ◌+◌, arith}
 use Rattle.std.specs.Int.{w8, w32}
 use Rattle.ig_base.specs.Numbers.{LE}
-use Rattle.ig_encode.specs.Heads.{wide_count}
-use Rattle.ig_encode.proofs.Puts.{spliced_next}
-use Rattle.ig_encode.proofs.spell_heads.KindedElement.write_at.Goals as goal
+use Rattle.ig_encode.specs.HeadBytes.{wide_count}
+use Rattle.ig_encode.proofs.OutputLemmas.{spliced_next}
+use Rattle.ig_encode.proofs.spell_heads.KindedWriteElement.write_at.Goals as goal
 
 pub returns : goal.returns
 returns c =

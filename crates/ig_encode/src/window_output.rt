@@ -1,14 +1,14 @@
-//! Filling a slice as a sink.
+//! A window as an output: it fills a slice with the bytes from an offset on.
 
 ghost use Rattle.std.specs.Prelude.{◌≡◌, ◌+◌, ◌-◌, ◌*◌, ◌<◌, ◌≤◌, List, ℕ, length, min, IsTrue, IsFalse, IfSome, IsNone};
-ghost use Rattle.ig_encode.specs.Filling.{filled, filled_empty, filled_longer};
+ghost use Rattle.ig_encode.specs.WindowOutput.{window_after, filled_empty, filled_longer};
 
-use crate::part::Part;
-use crate::sink::Sink;
+use crate::output::Output;
 use crate::splice::copy_at;
+use crate::window::Window;
 
-impl Sink for Part {
-    ghost after = { filled };
+impl Output for Window {
+    ghost after = { window_after };
 
     ghost empty = { filled_empty };
 
@@ -62,26 +62,26 @@ impl Sink for Part {
     }
 }
 
-/// Puts those of the bytes that lie behind the place and that the slice has room for.
+/// Puts those of the bytes that are past the offset and that the slice has room for.
 #[inline(never)]
-fn put_some(part: &mut Part, into: &mut [u8], bytes: &[u8])
-    ensures { (part.new, into.new) ≡ filled part.old into.old bytes.now }
+fn put_some(window: &mut Window, into: &mut [u8], bytes: &[u8])
+    ensures { (window.new, into.new) ≡ window_after window.old into.old bytes.now }
 {
-    let before = first_of(bytes.len(), part.skip);
-    part.skip -= before as u64;
-    let room = into.len().saturating_sub(part.filled);
+    let before = first_of(bytes.len(), window.skip);
+    window.skip -= before as u64;
+    let room = into.len().saturating_sub(window.filled);
     let count = if room < bytes.len() - before {
         room
     } else {
         bytes.len() - before
     };
     if count > 0 {
-        copy_at(into, part.filled, &bytes[before..before + count]);
-        part.filled += count;
+        copy_at(into, window.filled, &bytes[before..before + count]);
+        window.filled += count;
     }
 }
 
-/// How many of so many bytes come before the place.
+/// How many of the next `count` bytes to skip.
 fn first_of(count: usize, skip: u64) -> usize
     ensures { result ≡ min count skip }
 {
@@ -92,7 +92,8 @@ fn first_of(count: usize, skip: u64) -> usize
     }
 }
 
-/// How many of so many items of this width come before the place as a whole.
+/// How many of the next `count` items, of this width, to skip: those that lie before the offset as
+/// a whole.
 fn items_before(width: usize, count: usize, skip: u64) -> usize
     requires { 0 < width }
     ensures within { result ≤ count }
@@ -106,7 +107,7 @@ fn items_before(width: usize, count: usize, skip: u64) -> usize
     }
 }
 
-/// How many of so many items of this width there is room for.
+/// How many of `count` items of this width there is room for.
 fn items_in(width: usize, count: usize, room: usize) -> usize
     requires { 0 < width }
     ensures within { result ≤ count }

@@ -1,4 +1,4 @@
--- What stands between a code and the items behind it.
+-- The bytes between a code and the items.
 use Rattle.std.specs.Prelude.{◌≡◌, ℕ, pos, List, ◌++◌, length}
 use Rattle.std.proofs.Common.{refl}
 use Rattle.std.specs.Int.{w8, w32}

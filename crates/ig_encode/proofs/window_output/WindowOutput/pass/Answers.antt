@@ -1,6 +1,6 @@
 use Rattle.std.proofs.Common.{◌-◌, sym, ap, ◌∙◌, arith}
-use Rattle.ig_encode.specs.Filling.{filled_before, beside}
-use Rattle.ig_encode.proofs.filling.PartSink.pass.Goals as goal
+use Rattle.ig_encode.specs.WindowOutput.{filled_before, beside}
+use Rattle.ig_encode.proofs.window_output.WindowOutput.pass.Goals as goal
 
 pub returns-clause-passed : goal.returns-clause-passed
 returns-clause-passed c = λ bytes e.

@@ -1,4 +1,4 @@
--- How many bytes each scalar has.
+-- The number of bytes of each scalar.
 use Rattle.std.specs.Prelude.{◌≡◌, ℕ, ℤ, Bool, true, false, length}
 use Rattle.std.proofs.Common.{refl}
 use Rattle.ig_base.specs.Numbers.{LE}

@@ -1,4 +1,4 @@
--- What a sink holds after several pieces.
+-- An output and its slice after several pieces.
 use Rattle.std.proofs.Common.{◌≡◌, ℕ, ◌+◌, ◌*◌, ◌<◌, ◌≤◌, List, [], ◌∷◌, ◌++◌, length, take, drop, get_or, sym, ap, ◌∙◌, arith, length-append, length-take-le}
 use Rattle.std.specs.List.{flat_map}
 use Rattle.std.proofs.Math.Nat.{mul-le-mul_right}
@@ -6,7 +6,7 @@ use Rattle.std.proofs.lemmas.List.{take-append-drop, append-nil}
 use Rattle.std.proofs.lemmas.Grind.{flat_map-append, take_at_read}
 use Rattle.ig_encode.specs.Splice.{splice, splice_both}
 
--- how a sink and its slice take bytes
+-- how an output and its slice take bytes
 abbrev pub Takes : Type 0 → Type 0
 Takes S = S → List ℕ → List ℕ → S × List ℕ
 
@@ -41,7 +41,7 @@ flat_map_more : {A : Type 0} (h : A → List ℕ) (xs : List A) (i : ℕ) (d : A
 flat_map_more h xs i d lt =
     ap (flat_map h) (take_at_read xs i d lt).1 ∙ flat_map-append h (take i xs) (get_or xs i d ∷ []) ∙ ap (λ (l : List ℕ). flat_map h (take i xs) ++ l) (append-nil (h (get_or xs i d)))
 
--- one more item that is written behind those before it
+-- one more item that is written after those before it
 pub written_more : {A : Type 0} (h : A → List ℕ) (width : ℕ) → ((x : A) → length (h x) ≡ width) → (into : List ℕ) (at : ℕ) (xs : List A) (i : ℕ) (x : A) (place : ℕ) (now next : List ℕ) → i < length xs → at + length xs * width ≤ length into → x ≡ get_or xs i x → place ≡ at + i * width →
     now ≡ splice into at (flat_map h (take i xs)) → next ≡ splice now place (h x) → next ≡ splice into at (flat_map h (take (i + 1) xs))
 written_more h width wide into at xs i x place now next lt room item is a b =
@@ -66,7 +66,7 @@ first_claimed {S} after longer h width wide s into xs front back at n t now u le
     let beside : List ℕ → S × List ℕ = λ l. (t, l) in
     two after longer s into bytes (flat_map h back) (beside now) u (ap beside w ∙ sym (a bytes fits)) b ∙ ap (after s into) (sym all)
 
--- a piece that is written just behind another
+-- a piece that is written right after another
 pub spliced_next : (into : List ℕ) (at place : ℕ) (p q now next : List ℕ) → at + length p ≤ length into → place ≡ at + length p → now ≡ splice into at p → next ≡ splice now place q → next ≡ splice into at (p ++ q)
 spliced_next into at place p q now next fits there a b =
     b ∙ ap (λ (l : List ℕ). splice l place q) a ∙ ap (λ (n : ℕ). splice (splice into at p) n q) there ∙ splice_both into at p q fits

@@ -1,13 +1,13 @@
-//! Counting as a sink.
+//! A length as an output: it counts the bytes and keeps none.
 
 ghost use Rattle.std.specs.Prelude.{◌≡◌, ◌*◌, ◌<◌, ◌≤◌, ◌+◌, ◌-◌, ◌^◌, List, ℕ, length, IsTrue, IsFalse, IfSome, IsNone};
-ghost use Rattle.ig_encode.specs.Counting.{counted, counted_empty, counted_longer, grown};
+ghost use Rattle.ig_encode.specs.LengthOutput.{length_after, counted_empty, counted_longer, count_after};
 
 use crate::length::Length;
-use crate::sink::Sink;
+use crate::output::Output;
 
-impl Sink for Length {
-    ghost after = { counted };
+impl Output for Length {
+    ghost after = { length_after };
 
     ghost empty = { counted_empty };
 
@@ -40,10 +40,10 @@ impl Sink for Length {
     }
 }
 
-/// Counts so many bytes more.
+/// Counts more bytes.
 #[inline(always)]
 fn grow(count: &mut Length, more: usize)
-    ensures { count.new ≡ grown count.old more }
+    ensures { count.new ≡ count_after count.old more }
 {
     match count.low.checked_add(more as u64) {
         Some(low) => count.low = low,
@@ -51,11 +51,11 @@ fn grow(count: &mut Length, more: usize)
     }
 }
 
-/// Counts so many bytes more, which may carry.
+/// Counts more bytes, which may carry into the high number.
 #[inline(never)]
 fn carry(count: &mut Length, more: u128)
     requires { more ≤ 2 ^ 128 - 2 ^ 64 }
-    ensures { count.new ≡ grown count.old more }
+    ensures { count.new ≡ count_after count.old more }
 {
     let sum = count.low as u128 + more;
     count.low = (sum % 18_446_744_073_709_551_616) as u64;
