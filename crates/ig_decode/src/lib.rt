@@ -2,7 +2,7 @@
 //! stop being one, and why.
 //!
 //! ```text
-//! 3 5 0 0 0 8 9        Int(5), from 5 bytes; the rest is not looked at
+//! 3 5 0 0 0 8 9        Int(5), from 5 bytes; the rest is left alone
 //! 9 5 0 0 0 0x61       refused: the value isn't whole at offset 5
 //! ```
 //!

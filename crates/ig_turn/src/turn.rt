@@ -54,7 +54,8 @@ impl<O: Plain> Turn<O> {
         requires fits { O.fits ask }
         ensures own { IsOf self.now seat.new }
         ensures ok { IfOk result (λ got. Adds seat.old seat.new (O.ask_data ask) (O.got_data got)) }
-        ensures next { IfOk result (λ got. HasJoinedAll seat.old → seat.new.seen ≡ seat.old.seen ++ entry seat.old.number (O.ask_data ask) (O.got_data got) ∷ []) }
+        ensures next { IfOk result (λ got. HasJoinedAll seat.old → seat.new.seen
+            ≡ seat.old.seen ++ entry seat.old.number (O.ask_data ask) (O.got_data got) ∷ []) }
         ensures err { IfErr result (λ none. (none.back ≡ ask) × (seat.new ≡ seat.old)) }
         ensures sure { O.is_sure ask → IsOk result }
         ensures legal { IsLegal O.runs seat.new }

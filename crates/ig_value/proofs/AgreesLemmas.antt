@@ -54,7 +54,7 @@ pub record Takes {A : Type 0} (P : List ℕ → A → Type 0) (s : List ℕ) (x 
   pub whole : s ≡ prefix ++ rest
   pub right : P prefix x
 
--- the place that has so many bytes left
+-- the place with this many bytes left after it
 pub record Halts (W : List ℕ → ℕ → Cause → Type 0) (s : List ℕ) (left : ℕ) (c : Cause) : Type 0 where
   pub at : ℕ
   pub there : left + at ≡ length s

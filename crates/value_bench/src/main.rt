@@ -71,7 +71,7 @@ fn text(alloc: Global, size: i32) -> Result<Value> {
     Ok(Value::Str(Text::new(letters)))
 }
 
-/// The value of a name, of so many items.
+/// The value that a name stands for, with `size` items.
 fn named(alloc: Global, name: &str, size: i32) -> Result<Value> {
     match name {
         "bytes" => Ok(Value::Bytes(items(alloc, size, |i| (i % 128) as i8)?)),
