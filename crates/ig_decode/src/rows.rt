@@ -30,7 +30,7 @@ pub(crate) fn element_row<E: ReadElement, F: FnOnce(E) -> Value>(
 }
 
 /// The value of a content that is not a single element.
-#[inline(never)]
+#[inline(always)]
 pub(crate) fn content_row<C: ReadContent, F: FnOnce(C) -> Value>(
     alloc: Global,
     bytes: &[u8],

@@ -162,7 +162,7 @@ module _ {C : Type 0} (stands : C → Plain → List Entry → Type 0) (seat : �
     ran = since.ran ++ st.ran;
     out = since.out ++ take sent frame;
     keeps = all_kept a b c first old new s0 s1 result since st;
-    gets = SinkAdvances-then since.gets fault.gets;
+    gets = SinkAdvances-then since.gets fault.advances;
     cause = record {
       rose = Rose-after s0.faults s1.faults s2.faults since.gets.faults fault.rose;
       holds_not = held_not s0.holds s1.holds since.gets.holds fault.holds_not;

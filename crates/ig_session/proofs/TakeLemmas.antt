@@ -34,7 +34,7 @@ takes_limit state source taken missing full = ends_here state source source take
 
 pub takes_fault : (state : Session) (source source' : SourceState) (taken missing : ℕ) → taken < byte_limit → ReadFault source source'
     → TakesPiece state state source source' taken missing (Err ends.ReadFault)
-takes_fault state source source' taken missing within fault = ends_here state source source' taken missing ends.ReadFault fault.gives
+takes_fault state source source' taken missing within fault = ends_here state source source' taken missing ends.ReadFault fault.advances
     (record { ended = fault.is_open; rose = fault.rose; holds_not = fault.holds_not }) (λ fs o e. e)
     (λ input output results counts w. (omega (arith, counts, within), missing, waiting state input output results missing w.stands w.part))
 
@@ -65,12 +65,12 @@ has_ended : (source source' : SourceState) → ReadEnd source source' → HasEnd
 has_ended source source' end = record {
   ended = end.ended;
   counts = end.counts;
-  whole = λ holds. none_left source.left source'.left end.gives.left (end.whole holds);
+  whole = λ holds. none_left source.left source'.left end.advances.left (end.whole holds);
 }
 
 pub takes_end : (state : Session) (source source' : SourceState) (taken missing : ℕ) → taken < byte_limit → ReadEnd source source'
     → TakesPiece state state source source' taken missing (Err (end_at state missing))
-takes_end state source source' taken missing within end = ends_here state source source' taken missing (end_at state missing) end.gives
+takes_end state source source' taken missing within end = ends_here state source source' taken missing (end_at state missing) end.advances
     (caused_by state.is_open state.frames taken missing source source' (has_ended source source' end)) (shows_by state.is_open state.frames missing)
     (λ input output results counts w.
     ends_by state.is_open state.frames input missing w.stands.bodies w.stands.stage (waiting state input output results missing w.stands w.part) (omega (arith, counts, within)))

@@ -24,7 +24,7 @@ returns-in-Ok-clause-takes g c =
     let len = length-take-le n buf some.fits in
     takes_bytes c.args.session.now (record { frames = c.feed.new.self; is_open = c.args.session.now.is_open; reply = c.args.session.now.reply })
     (g.S.Source.source c.args.source.now) (g.S.Source.source c.read.new.self) (take n buf) c.args.taken (c.args.taken + n) c.args.missing
-    some.gives (record { ended = some.is_open; counts = some.counts }) (ap (λ k. c.args.taken + k) (sym len)) (omega (arith, some.some))
+    some.advances (record { ended = some.is_open; counts = some.counts }) (ap (λ k. c.args.taken + k) (sym len)) (omega (arith, some.some))
     (omega (arith, some.fits, c.read.auto.buf, length-take c.min-room.result c.args.buf.now, c.min-room.ensures, c.requires.within))
     (c.in-Ok.ensures.ok ∙ ap (λ (l : List ℕ). c.args.session.now.frames ++ l) same) refl (subst AreBytes same are)
 
@@ -38,6 +38,6 @@ returns-in-Err-clause-takes g c =
     takes_none c.args.session.now (record { frames = c.feed.new.self; is_open = c.args.session.now.is_open; reply = c.args.session.now.reply })
     (record { frames = c.args.session.now.frames ++ take n buf; is_open = c.args.session.now.is_open; reply = c.args.session.now.reply })
     (g.S.Source.source c.args.source.now) (g.S.Source.source c.read.new.self) (take n buf) c.args.taken c.args.missing
-    some.gives (record { ended = some.is_open; counts = some.counts })
+    some.advances (record { ended = some.is_open; counts = some.counts })
     (omega (arith, length-take-le n buf some.fits, some.fits, c.read.auto.buf, length-take c.min-room.result c.args.buf.now, c.min-room.ensures, c.requires.within))
     refl refl (subst AreBytes same are)
