@@ -8,9 +8,11 @@
 //! Contracts see [`Text`], [`Octets`] and [`Items`] as lists, so a tree of them is plain data.
 #![tactic(auto)]
 
+mod boxed;
 mod entry;
 mod frames;
 mod hashes;
+mod header;
 mod items;
 mod memory;
 mod nodes;
@@ -18,9 +20,11 @@ mod numbers;
 mod octets;
 mod text;
 
+pub use boxed::Boxed;
 pub use entry::Entry;
 pub use frames::{frame_is_read, one_cut};
 pub use hashes::text_hash;
+pub use header::{COMPACT_FOOTER, Footer, HAS_SCHEMA, Header, ONE_BYTE_OFFSETS, RAW_DATA, TWO_BYTE_OFFSETS, USER_TYPE};
 pub use items::Items;
 pub use memory::{NoMemory, NoRoom};
 pub use nodes::{NodeId, Topology};

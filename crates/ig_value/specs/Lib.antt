@@ -1,5 +1,6 @@
 pub mod Part
 pub mod Table
+pub mod Objects
 pub mod Spells
 pub mod Stops
 pub mod Canon

@@ -3,8 +3,9 @@
 ghost use Rattle.std.specs.Prelude.{◌≡◌, IfOk};
 
 use crate::leaves::{Leaf, copy_leaves, copy_plain};
+use crate::object::Record;
 use crate::value::Value;
-use ig_base::{Items, NoMemory};
+use ig_base::{Boxed, Items, NoMemory};
 use std::alloc::Global;
 
 impl Value {
@@ -73,6 +74,15 @@ impl Value {
                 ordinal: *ordinal,
             },
             Value::Null => Value::Null,
+            Value::Object(object) => Value::Object(Boxed::new(
+                alloc,
+                Record {
+                    bits: object.get().bits,
+                    type_id: object.get().type_id,
+                    shape: object.get().shape.copy(alloc)?,
+                    fields: copy_values(alloc, object.get().fields.as_slice())?,
+                },
+            )?),
         })
     }
 }

@@ -15,13 +15,15 @@ mod laws;
 mod leaves;
 mod limited;
 mod limits;
+mod object;
 mod same;
 mod value;
 
 pub use cause::Cause;
 pub use code::Code;
 pub use laws::{bounded_trees, one_form, one_reader, one_reading};
-pub use value::{DEEPEST, Dec, Stamp, Value};
+pub use object::{Record, Shape};
+pub use value::{DEEPEST, Dec, Object, Stamp, Value};
 
 #[cfg(test)]
 mod tests;

@@ -5,8 +5,9 @@ ghost use Rattle.std.specs.Str.{IsUtf8};
 ghost use Rattle.std.specs.List.{AllByRecursion};
 ghost use Rattle.ig_value.specs.Part as scalar;
 ghost use Rattle.ig_value.specs.Spells.{IsInRange};
-ghost use Rattle.ig_value.specs.Limits.{AreCountable, IfThere, IsLimitedText, IsLimitedUuid, IsLimitedStamp, IsLimitedDecimal};
+ghost use Rattle.ig_value.specs.Limits.{AreCountable, IfThere, IsLimitedHead, IsLimitedText, IsLimitedUuid, IsLimitedStamp, IsLimitedDecimal};
 
+use crate::object::{Record, Shape};
 use crate::value::{Dec, Stamp};
 use ig_base::{NodeId, Octets, Text};
 
@@ -152,6 +153,22 @@ fn are_countable(bytes: &[u8]) -> bool
     ensures { IsTrue result ↔ AreCountable bytes.now }
 {
     bytes.len() <= LONGEST
+}
+
+/// Whether all of an object but its fields does.
+pub(crate) fn is_limited_head<V>(object: &Record<V>) -> bool
+    requires { length object.now.fields < 2 ^ 31 }
+    ensures { IsTrue result ↔ IsLimitedHead object.now }
+{
+    let (bits, type_id) = (object.bits, object.type_id);
+    let fields = object.fields.as_slice().len();
+    if bits / 64 * 64 + bits % 2 != bits || type_id == 0 {
+        return false;
+    }
+    match &object.shape {
+        Shape::Named(ids) => ids.as_slice().len() == fields && are_limited(ids.as_slice()),
+        Shape::Compact(schema) => schema.is_limited() && fields != 0,
+    }
 }
 
 /// Whether both parts keep to the limits.

@@ -6,7 +6,7 @@ ghost use Rattle.ig_value.specs.Part as scalar;
 ghost use Rattle.ig_value.specs.Spells.{IsInRange};
 ghost use Rattle.ig_value.specs.Limits.{Depth, Fits, FitsTo};
 
-use crate::limited::{LONGEST, Limited, are_limited, both_limited};
+use crate::limited::{LONGEST, Limited, are_limited, both_limited, is_limited_head};
 use crate::value::{DEEPEST, Value};
 
 impl Value {
@@ -66,6 +66,8 @@ fn fits_to(value: &Value, levels: u32) -> bool
         Value::Times(xs) => are_limited(xs.as_slice()),
         Value::BinaryEnum { type_id, ordinal } => both_limited(type_id, ordinal),
         Value::Null => true,
+        Value::Object(object) => values_fit(object.get().fields.as_slice(), levels - 1)
+            && is_limited_head(object.get()),
     }
 }
 

@@ -98,6 +98,10 @@ impl Value {
                 },
             ) => s == t && a == b,
             (Value::Null, Value::Null) => true,
+            (Value::Object(a), Value::Object(b)) => a.get().bits == b.get().bits
+                && a.get().type_id == b.get().type_id
+                && a.get().shape.same(&b.get().shape)
+                && same_values(a.get().fields.as_slice(), b.get().fields.as_slice()),
             _ => false,
         }
     }

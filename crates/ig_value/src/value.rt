@@ -1,6 +1,7 @@
 //! The value tree.
 
-use ig_base::{Items, NodeId, Octets, Text};
+use crate::object::Record;
+use ig_base::{Boxed, Items, NodeId, Octets, Text};
 
 /// A decimal number: `bytes` is the unscaled value as it was read, highest byte first.
 #[derive(Debug, Drop)]
@@ -123,4 +124,9 @@ pub enum Value {
     },
     /// Code 101: no value.
     Null,
+    /// Code 103: a complex object.
+    Object(Boxed<Record<Value>>),
 }
+
+/// A complex object.
+pub type Object = Record<Value>;
