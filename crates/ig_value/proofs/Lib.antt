@@ -4,6 +4,7 @@ pub mod ScalarLemmas
 pub mod CountLemmas
 pub mod PartLemmas
 pub mod RowLemmas
+pub mod LaidLemmas
 pub mod ValueLemmas
 pub mod FoldLemmas
 pub mod SpelledLemmas

@@ -192,6 +192,7 @@ children_fit F (Value-F.Objects type xs) f = f.1.1.1
 children_fit F (Value-F.Collection kind xs) f = f.1.1
 children_fit F (Value-F.Map kind ps) f = all_single F ps f.1.1
 children_fit F (Value-F.Enums type xs) f = f.1.1.1
+children_fit F (Value-F.Object o) f = f.fields
 children_fit F _ f = tt
 
 greatest_below : (levels : ℕ) (F : Value → Type 0) → ((v : Value) → F v → Depth v ≤ levels) → (vs : List Value) → AllByRecursion F vs → greatest (map Depth vs) ≤ levels

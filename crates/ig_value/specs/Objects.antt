@@ -1,6 +1,6 @@
 -- Complex objects: a header of 24 bytes, the fields laid end to end, and a footer with an entry for
 -- each field. Offsets count from the object's first byte, its code.
-use Rattle.std.specs.Prelude.{◌≡◌, ◌≢◌, ℕ, zero, suc, ◌+◌, ◌-◌, ◌*◌, ◌/◌, ◌%◌, ◌^◌, ◌<◌, ℤ, pos, negsuc, Bool, true, false, not, ◌&&◌, ◌==◌, nat_lt, List, [], ◌∷◌, ◌++◌, length, take, drop, map, Option, None, Some, if◌then◌else◌, FitsSigned}
+use Rattle.std.specs.Prelude.{◌≡◌, ◌≢◌, ◌⊎◌, ℕ, zero, suc, ◌+◌, ◌-◌, ◌*◌, ◌/◌, ◌%◌, ◌^◌, ◌<◌, ℤ, pos, negsuc, Bool, true, false, not, ◌&&◌, ◌==◌, nat_lt, List, [], ◌∷◌, ◌++◌, length, take, drop, map, Option, None, Some, if◌then◌else◌, FitsSigned}
 use Rattle.std.specs.Int.{Width, w8, w16, w32, byte_len, cast_signed, from_le_bytes}
 use Rattle.std.specs.Ordering.{int_eq}
 use Rattle.std.specs.List.{flat_map, AllByRecursion}
@@ -271,21 +271,22 @@ abbrev pub canonical_schema : Shape → ℤ
 canonical_schema (Named ids) = schema_of ids
 canonical_schema (Compact schema) = schema
 
--- the canonical bytes after the code of an object whose fields have these bytes
-abbrev pub object_bytes : {X : Type 0} → Record X → List (List ℕ) → List ℕ
-object_bytes o [] =
-    header_bytes (record { version = 1; flags = o.bits; type_id = o.type_id; hash = cast_signed w32 (BytesHash []); length = pos 24; schema = pos 0; schema_at = pos 0 })
-object_bytes o (piece ∷ pieces) =
+-- the canonical bytes after the code of an object with these bits, type and shape, whose fields
+-- have these bytes
+abbrev pub object_bytes : ℕ → ℤ → Shape → List (List ℕ) → List ℕ
+object_bytes bits type shape [] =
+    header_bytes (record { version = 1; flags = bits; type_id = type; hash = cast_signed w32 (BytesHash []); length = pos 24; schema = pos 0; schema_at = pos 0 })
+object_bytes bits type shape (piece ∷ pieces) =
     let fields = flat_map (λ bytes. bytes) (piece ∷ pieces) in
     let offsets = places_from 24 (piece ∷ pieces) in
-    let flags = o.bits + 2 + width_flag (last_of offsets) + compact_flag o.shape in
-    let footer = footer_bytes (offset_width flags) o.shape offsets in
+    let flags = bits + 2 + width_flag (last_of offsets) + compact_flag shape in
+    let footer = footer_bytes (offset_width flags) shape offsets in
     header_bytes (record {
       version = 1;
       flags = flags;
-      type_id = o.type_id;
+      type_id = type;
       hash = cast_signed w32 (BytesHash fields);
       length = pos (24 + length fields + length footer);
-      schema = canonical_schema o.shape;
+      schema = canonical_schema shape;
       schema_at = pos (24 + length fields);
     }) ++ (fields ++ footer)
