@@ -5,6 +5,7 @@ pub mod CountLemmas
 pub mod PartLemmas
 pub mod RowLemmas
 pub mod LaidLemmas
+pub mod FooterLemmas
 pub mod ValueLemmas
 pub mod FoldLemmas
 pub mod SpelledLemmas
