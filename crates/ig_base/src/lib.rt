@@ -23,7 +23,10 @@ mod text;
 pub use entry::Entry;
 pub use frames::{frame_is_read, one_cut};
 pub use hashes::{NotAscii, bytes_hash, hash_composes, name_id, schema_id, text_hash};
-pub use header::{COMPACT_FOOTER, Footer, HAS_SCHEMA, Header, ONE_BYTE_OFFSETS, RAW_DATA, TWO_BYTE_OFFSETS, USER_TYPE};
+pub use header::{
+    COMPACT_FOOTER, Footer, HAS_SCHEMA, Header, ONE_BYTE_OFFSETS, RAW_DATA, TWO_BYTE_OFFSETS,
+    USER_TYPE,
+};
 pub use items::Items;
 pub use memory::{NoMemory, NoRoom};
 pub use nodes::{NodeId, Topology};

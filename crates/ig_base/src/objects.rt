@@ -4,26 +4,31 @@ ghost use Rattle.std.specs.Prelude.{◌≡◌, ◌<◌, ◌↔◌, length, take,
 ghost use Rattle.ig_base.specs.Headers.{has_flag, offset_width, header_bytes, header_of};
 
 use crate::header::{Footer, Header};
-use crate::numbers::get_i32;
+use crate::numbers::{get_i16, get_i32};
 
 /// Reads the header of a complex object from its first 24 bytes. `None` exactly where fewer are given.
 /// The first byte, the object's code, isn't looked at. Takes no memory.
+#[tactic(auto, using(crate::proofs::HeaderLemmas::header_absent))]
 pub fn read_header(bytes: &[u8]) -> Option<Header>
     ensures none { IsNone result ↔ (length bytes.now < 24) }
     ensures spelled { IfSome result (λ h. header_bytes h ≡ take 23 (drop 1 bytes.now)) }
     ensures exact { result ≡ header_of bytes.now }
 {
-    let [_, version, low, high, ..] = bytes else {
-        return None;
-    };
+    let version = *bytes.get(1)?;
+    let flags = get_i16(bytes, 2)?.cast_unsigned();
+    let type_id = get_i32(bytes, 4)?;
+    let hash = get_i32(bytes, 8)?;
+    let length = get_i32(bytes, 12)?;
+    let schema = get_i32(bytes, 16)?;
+    let schema_at = get_i32(bytes, 20)?;
     Some(Header {
-        version: *version,
-        flags: u16::from_le_bytes([*low, *high]),
-        type_id: get_i32(bytes, 4)?,
-        hash: get_i32(bytes, 8)?,
-        length: get_i32(bytes, 12)?,
-        schema: get_i32(bytes, 16)?,
-        schema_at: get_i32(bytes, 20)?,
+        version,
+        flags,
+        type_id,
+        hash,
+        length,
+        schema,
+        schema_at,
     })
 }
 
