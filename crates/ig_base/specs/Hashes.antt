@@ -1,8 +1,8 @@
 -- The hashes that make identifiers of names, of complex objects and of their schemas.
-use Rattle.std.specs.Prelude.{◌≡◌, ℕ, ◌+◌, ◌*◌, ◌%◌, ◌^◌, ◌<◌, ◌≤◌, ℤ, List, [], ◌∷◌, length, take, map, fold, slice_index, bit_xor}
+use Rattle.std.specs.Prelude.{ℕ, ◌+◌, ◌*◌, ◌%◌, ◌^◌, ◌<◌, ◌≤◌, ℤ, List, [], ◌∷◌, length, take, map, fold, slice_index, bit_xor}
 use Rattle.std.specs.Int.{w8, w32, cast_signed, cast_unsigned}
 use Rattle.std.specs.List.{flat_map}
-use Rattle.std.specs.Str.{chars, IsAscii, str_to_ascii_lowercase}
+use Rattle.std.specs.Str.{chars, IsAscii}
 use Rattle.std.specs.Char.Escape.{encode_utf16}
 use Rattle.ig_base.specs.Numbers.{LE}
 

@@ -1,6 +1,6 @@
 -- The header of a complex object, and what its flags say of the footer.
-use Rattle.std.specs.Prelude.{ℕ, ◌+◌, ◌/◌, ◌%◌, ℤ, pos, Bool, List, ◌∷◌, ◌++◌, length, take, drop, slice_index, nat_lt, ◌==◌, Option, None, Some, if◌then◌else◌}
-use Rattle.std.specs.Int.{Width, w16, w32, byte_len, cast_signed, from_le_bytes}
+use Rattle.std.specs.Prelude.{ℕ, ◌/◌, ◌%◌, ℤ, pos, Bool, List, ◌∷◌, ◌++◌, length, take, drop, slice_index, nat_lt, ◌==◌, Option, None, Some, if◌then◌else◌}
+use Rattle.std.specs.Int.{w16, w32, cast_signed, from_le_bytes}
 use Rattle.ig_base.specs.Numbers.{LE}
 use Rattle.ig_base.specs.declared.header.Header.{Header}
 
