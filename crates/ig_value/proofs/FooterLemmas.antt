@@ -10,7 +10,7 @@ use Rattle.ig_base.specs.Headers.{has_flag}
 use Rattle.ig_base.specs.declared.header.Header.{Header}
 use Rattle.ig_value.specs.declared.object.Shape.{Shape}
 use Rattle.ig_value.specs.declared.object.Shape.TheVariants.{Named, Compact}
-use Rattle.ig_value.specs.Objects.{offset_width, key_len, entry_len, schema_of, named_footer, footer_bytes, IsShape, offsets_of, ids_of}
+use Rattle.ig_value.specs.Objects.{offset_type, key_len, entry_len, schema_of, named_footer, footer_bytes, IsShape, offsets_of, ids_of}
 use Rattle.ig_value.proofs.AgreesLemmas.{AreBytes-take, AreBytes-drop}
 use Rattle.ig_value.proofs.ScalarLemmas.{IsNumber, IsWide, wide8, wide16, wide32, signed_number, signed_fits, unsigned_number}
 use Rattle.ig_value.proofs.CountLemmas.{LE-length}
@@ -144,14 +144,14 @@ bits_by true b = refl
 bits_by false true = refl
 bits_by false false = refl
 
-abbrev wide_of : (flags : ℕ) → IsWide (offset_width flags)
+abbrev wide_of : (flags : ℕ) → IsWide (offset_type flags)
 wide_of flags = wide_by (has_flag 8 flags) (has_flag 16 flags)
 
-abbrev bits_of : (flags : ℕ) → 8 * byte_len (offset_width flags) ≡ bits (offset_width flags)
+abbrev bits_of : (flags : ℕ) → 8 * byte_len (offset_type flags) ≡ bits (offset_type flags)
 bits_of flags = bits_by (has_flag 8 flags) (has_flag 16 flags)
 
 abbrev pub InWidth : ℕ → List ℕ → Type 0
-InWidth flags offsets = AllByRecursion (λ offset. offset < 2 ^ (8 * byte_len (offset_width flags))) offsets
+InWidth flags offsets = AllByRecursion (λ offset. offset < 2 ^ (8 * byte_len (offset_type flags))) offsets
 
 -- the shape that a footer of n entries tells
 abbrev pub footer_shape : Header → ℕ → List ℕ → Shape
@@ -160,14 +160,14 @@ footer_shape header n footer = cond (has_flag 32 header.flags) (Compact header.s
 -- what is read of a footer of n entries that is spelled for this shape
 pub record FooterAgain (header : Header) (shape : Shape) (offsets : List ℕ) (n : ℕ) (footer : List ℕ) : Type 0 where
   pub len : length footer ≡ n * entry_len header.flags
-  pub offsets_are : offsets_of (offset_width header.flags) (key_len header.flags) n footer ≡ offsets
+  pub offsets_are : offsets_of (offset_type header.flags) (key_len header.flags) n footer ≡ offsets
   pub shape_is : footer_shape header n footer ≡ shape
   pub schema : has_flag 32 header.flags ≡ false → header.schema ≡ schema_of (ids_of (entry_len header.flags) n footer)
 
 pub footer_again : (header : Header) (shape : Shape) (offsets : List ℕ) (n : ℕ) → length offsets ≡ n → IsShape header n shape → InWidth header.flags offsets →
-    FooterAgain header shape offsets n (footer_bytes (offset_width header.flags) shape offsets)
+    FooterAgain header shape offsets n (footer_bytes (offset_type header.flags) shape offsets)
 footer_again header (Named ids) offsets n len h fit =
-    let w = offset_width header.flags in
+    let w = offset_type header.flags in
     let key : key_len header.flags ≡ 4 = rw h.0 refl in
     let same : length ids ≡ length offsets = h.3 ∙ sym len in
     let ids-are : ids_of (4 + byte_len w) n (named_footer w ids offsets) ≡ ids = subst (λ (m : ℕ). ids_of (4 + byte_len w) m (named_footer w ids offsets) ≡ ids) len (named_ids w (wide_of header.flags) (bits_of header.flags) ids offsets h.2 same) in
@@ -179,7 +179,7 @@ footer_again header (Named ids) offsets n len h fit =
       schema = λ e. h.1 ∙ ap schema_of (sym ids-key);
     }
 footer_again header (Compact schema) offsets n len h fit =
-    let w = offset_width header.flags in
+    let w = offset_type header.flags in
     let key : key_len header.flags ≡ 0 = rw h.0 refl in
     record {
       len = rw (key, sym len) (bare_len w (wide_of header.flags) (bits_of header.flags) offsets);
@@ -190,14 +190,14 @@ footer_again header (Compact schema) offsets n len h fit =
 
 -- what a footer of n entries spells
 pub record FooterBack (header : Header) (n : ℕ) (footer : List ℕ) : Type 0 where
-  pub is : footer_bytes (offset_width header.flags) (footer_shape header n footer) (offsets_of (offset_width header.flags) (key_len header.flags) n footer) ≡ footer
+  pub is : footer_bytes (offset_type header.flags) (footer_shape header n footer) (offsets_of (offset_type header.flags) (key_len header.flags) n footer) ≡ footer
   pub shape : IsShape header n (footer_shape header n footer)
-  pub fit : InWidth header.flags (offsets_of (offset_width header.flags) (key_len header.flags) n footer)
+  pub fit : InWidth header.flags (offsets_of (offset_type header.flags) (key_len header.flags) n footer)
 
 footer_back_by : (header : Header) (n : ℕ) (footer : List ℕ) (compact : Bool) → has_flag 32 header.flags ≡ compact → AreBytes footer → length footer ≡ n * entry_len header.flags →
     (has_flag 32 header.flags ≡ false → header.schema ≡ schema_of (ids_of (entry_len header.flags) n footer)) → FooterBack header n footer
 footer_back_by header n footer true is bytes len schema =
-    let w = offset_width header.flags in
+    let w = offset_type header.flags in
     let key : key_len header.flags ≡ 0 = rw is refl in
     let len-is : length footer ≡ n * (0 + byte_len w) = subst (λ (k : ℕ). length footer ≡ n * (k + byte_len w)) key len in
     let shape-is : footer_shape header n footer ≡ Compact header.schema = ap (λ (b : Bool). cond b (Compact header.schema) (Named (ids_of (entry_len header.flags) n footer))) is in
@@ -209,7 +209,7 @@ footer_back_by header n footer true is bytes len schema =
       fit = offsets_fit w (wide_of header.flags) (bits_of header.flags) (key_len header.flags) n footer bytes;
     }
 footer_back_by header n footer false is bytes len schema =
-    let w = offset_width header.flags in
+    let w = offset_type header.flags in
     let key : key_len header.flags ≡ 4 = rw is refl in
     let len-is : length footer ≡ n * (4 + byte_len w) = subst (λ (k : ℕ). length footer ≡ n * (k + byte_len w)) key len in
     let shape-is : footer_shape header n footer ≡ Named (ids_of (entry_len header.flags) n footer) = ap (λ (b : Bool). cond b (Compact header.schema) (Named (ids_of (entry_len header.flags) n footer))) is in

@@ -6,6 +6,8 @@ pub mod PartLemmas
 pub mod RowLemmas
 pub mod LaidLemmas
 pub mod FooterLemmas
+pub mod HeaderLemmas
+pub mod ObjectLemmas
 pub mod ValueLemmas
 pub mod FoldLemmas
 pub mod SpelledLemmas

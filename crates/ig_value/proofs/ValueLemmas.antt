@@ -12,8 +12,7 @@ use Rattle.ig_value.specs.Stops.{IsTruncated, StopsPart, StopsTo}
 use Rattle.ig_value.specs.Reading.{Fault, part_at, content_at, known_at, value_at}
 use Rattle.ig_value.proofs.AgreesLemmas.{Agrees, Takes, Halts, Halted, bind_ok, bind_err, ok_is, err_is}
 use Rattle.ig_value.proofs.ItemLemmas.{coded_takes, coded_halts}
-use Rattle.ig_value.proofs.FooterLemmas.{footer_again}
-use Rattle.ig_value.proofs.LaidLemmas.{laid_again}
+use Rattle.ig_value.proofs.ObjectLemmas.{object_agrees}
 use Rattle.ig_value.proofs.PartLemmas.{part_agrees, content_proper}
 use Rattle.ig_value.proofs.RowLemmas.{Row, built, rebuilt, code_of_byte, code_again, no_code, code_unknown}
 

@@ -20,9 +20,9 @@ use Rattle.ig_value.specs.declared.object.Shape.TheVariants.{Named, Compact}
 abbrev pub kept_flags : ℕ → ℕ
 kept_flags flags = flags / 64 * 64 + flags % 2
 
--- the width of an offset in the footer: one byte by flag 8, else two by flag 16, else four
-abbrev pub offset_width : ℕ → Width
-offset_width flags = if has_flag 8 flags then w8 else if has_flag 16 flags then w16 else w32
+-- the type of an offset in the footer: one byte by flag 8, else two by flag 16, else four
+abbrev pub offset_type : ℕ → Width
+offset_type flags = if has_flag 8 flags then w8 else if has_flag 16 flags then w16 else w32
 
 -- the bytes of a footer's entry before its offset: a field's identifier, or none by flag 32
 abbrev pub key_len : ℕ → ℕ
@@ -30,7 +30,7 @@ key_len flags = if has_flag 32 flags then 0 else 4
 
 -- the bytes of a footer's entry
 abbrev pub entry_len : ℕ → ℕ
-entry_len flags = key_len flags + byte_len (offset_width flags)
+entry_len flags = key_len flags + byte_len (offset_type flags)
 
 -- the schema identifier of these field identifiers
 abbrev pub schema_of : List ℤ → ℤ
@@ -50,7 +50,7 @@ named_footer w ids [] = []
 named_footer w [] (offset ∷ offsets) = LE w32 (pos 0) ++ (LE w (pos offset) ++ named_footer w [] offsets)
 named_footer w (id ∷ ids) (offset ∷ offsets) = LE w32 id ++ (LE w (pos offset) ++ named_footer w ids offsets)
 
--- the footer of this shape with these offsets, each in this width
+-- the footer of this shape with these offsets, each of this type
 abbrev pub footer_bytes : Width → Shape → List ℕ → List ℕ
 footer_bytes w (Named ids) offsets = named_footer w ids offsets
 footer_bytes w (Compact schema) offsets = flat_map (λ offset. LE w (pos offset)) offsets
@@ -101,13 +101,13 @@ pub record HasFields {X : Type 0} (P : List ℕ → X → Type 0) (header : Head
   pub head : List ℕ
   pub fields : List ℕ
   pub offsets : List ℕ
-  pub whole : s ≡ head ++ (fields ++ footer_bytes (offset_width header.flags) o.shape offsets)
+  pub whole : s ≡ head ++ (fields ++ footer_bytes (offset_type header.flags) o.shape offsets)
   pub head_len : length head ≡ 24
   pub some : o.fields ≢ []
   pub has_schema : has_flag 2 header.flags ≡ true
   pub schema_at : header.schema_at ≡ pos (24 + length fields)
   pub shape : IsShape header (length o.fields) o.shape
-  pub in_width : AllByRecursion (λ offset. offset < 2 ^ (8 * byte_len (offset_width header.flags))) offsets
+  pub in_width : AllByRecursion (λ offset. offset < 2 ^ (8 * byte_len (offset_type header.flags))) offsets
   pub laid : AreLaid P 24 offsets fields o.fields
 
 -- the bytes, code and all, encode the object, where P says which bytes encode a field
@@ -142,7 +142,7 @@ abbrev pub entry_count : Header → ℕ
 entry_count header = (size_of header.length - size_of header.schema_at) / entry_len header.flags
 
 abbrev pub object_offsets : Header → List ℕ → List ℕ
-object_offsets header s = offsets_of (offset_width header.flags) (key_len header.flags) (entry_count header) (footer_of header s)
+object_offsets header s = offsets_of (offset_type header.flags) (key_len header.flags) (entry_count header) (footer_of header s)
 
 abbrev pub object_ids : Header → List ℕ → List ℤ
 object_ids header s = ids_of (entry_len header.flags) (entry_count header) (footer_of header s)
@@ -280,7 +280,7 @@ object_bytes bits type shape (piece ∷ pieces) =
     let fields = flat_map (λ bytes. bytes) (piece ∷ pieces) in
     let offsets = places_from 24 (piece ∷ pieces) in
     let flags = bits + 2 + width_flag (last_of offsets) + compact_flag shape in
-    let footer = footer_bytes (offset_width flags) shape offsets in
+    let footer = footer_bytes (offset_type flags) shape offsets in
     header_bytes (record {
       version = 1;
       flags = flags;
