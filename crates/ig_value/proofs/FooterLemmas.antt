@@ -134,12 +134,12 @@ module _ (w : Width) (wide : IsWide w) (bits-are : 8 * byte_len w ≡ bits w) wh
 
 -- ---- by the flags
 
-wide_by : (a b : Bool) → IsWide (cond a w8 (cond b w16 w32))
+pub wide_by : (a b : Bool) → IsWide (cond a w8 (cond b w16 w32))
 wide_by true b = wide8
 wide_by false true = wide16
 wide_by false false = wide32
 
-bits_by : (a b : Bool) → let w = cond a w8 (cond b w16 w32) in 8 * byte_len w ≡ bits w
+pub bits_by : (a b : Bool) → let w = cond a w8 (cond b w16 w32) in 8 * byte_len w ≡ bits w
 bits_by true b = refl
 bits_by false true = refl
 bits_by false false = refl

@@ -8,6 +8,7 @@ pub mod LaidLemmas
 pub mod FooterLemmas
 pub mod HeaderLemmas
 pub mod ObjectLemmas
+pub mod SpelledObjectLemmas
 pub mod ValueLemmas
 pub mod FoldLemmas
 pub mod SpelledLemmas

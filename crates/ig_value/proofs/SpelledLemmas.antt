@@ -5,13 +5,15 @@ use Rattle.std.specs.Int.{w32}
 use Rattle.std.specs.List.{flat_map, sum_by, AllByRecursion}
 use Rattle.std.proofs.lemmas.List.Sums.{sum_by-cons}
 use Rattle.ig_base.specs.Numbers.{LE}
+use Rattle.ig_value.specs.declared.code.Code.TheVariants as code
 use Rattle.ig_value.specs.declared.value.Value.{Value, out-Value}
 use Rattle.ig_value.specs.declared.value.Value.TheOpen.{Value-F}
-use Rattle.ig_value.specs.Part.{Scalar, i8, i16, i32, i64, u16, u32, u64, truth, ScalarValue, Part, nothing, scalar, text, octets, uuid, stamp, decimal, value, both, counted, optional, Content}
+use Rattle.ig_value.specs.Part.{Scalar, i8, i16, i32, i64, u16, u32, u64, truth, ScalarValue, Part, nothing, scalar, text, octets, uuid, stamp, decimal, value, object, both, counted, optional, Content}
 use Rattle.ig_value.specs.Table.{byte_of, content, parts}
 use Rattle.ig_value.specs.Spells.{scalar_bytes, IsScalar, IsRun, IsBoth, IsCounted, IsEach, IsMany, SpellsPart, SpellsTo}
 use Rattle.ig_value.specs.Canon.{counted_bytes, part_bytes, Canon}
 use Rattle.ig_value.specs.Limits.{AreCountable, FitsPart, FitsTo, greatest, children, Depth, part_nodes, Nodes}
+use Rattle.ig_value.proofs.SpelledObjectLemmas.{object_least, object_nodes, object_fits}
 use Rattle.ig_value.proofs.FoldLemmas.{Canon_out, Depth_out, Nodes_out}
 
 -- ---- a spelling is canonical
@@ -71,6 +73,7 @@ part_fits P F one uuid s x e = (e.first.0, e.second.0)
 part_fits P F one stamp s x e = (e.first.0, e.second.0)
 part_fits P F one decimal s x e = (e.first.0, run_fits e.suffix x.bytes e.second)
 part_fits P F one value s x e = one s x e
+part_fits P F one object s x e = object_fits P F one (byte_of code.Object ∷ s) x e
 part_fits P F one (both p q) s x e = (part_fits P F one p e.prefix x.0 e.first, part_fits P F one q e.suffix x.1 e.second)
 part_fits P F one (counted p q) s x e =
     let b = e.after in
@@ -159,6 +162,7 @@ part_counts P h one uuid s x e = omega (arith, is_scalar_nodes u64 e.prefix x.mo
 part_counts P h one stamp s x e = omega (arith, is_scalar_nodes i64 e.prefix x.millis e.first, ap length e.whole, length-append e.prefix e.suffix)
 part_counts P h one decimal s x e = omega (arith, run_nodes e.suffix x.bytes e.second, ap length e.whole, length-append e.prefix e.suffix)
 part_counts P h one value s x e = one s x e
+part_counts P h one object s x e = object_nodes P h one s x e
 part_counts P h one (both p q) s x e =
     omega (arith, part_counts P h one p e.prefix x.0 e.first, part_counts P h one q e.suffix x.1 e.second, ap length e.whole, length-append e.prefix e.suffix)
 part_counts P h one (counted p q) s x e =

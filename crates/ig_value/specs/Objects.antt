@@ -259,9 +259,13 @@ last_of [] = 0
 last_of (n ∷ []) = n
 last_of (n ∷ m ∷ ns) = last_of (m ∷ ns)
 
--- the flag of the narrowest width that the last offset fits in; four bytes have none
+-- the narrowest type that this offset fits in
+abbrev pub narrowest : ℕ → Width
+narrowest offset = if nat_lt offset 256 then w8 else if nat_lt offset 65536 then w16 else w32
+
+-- its flag; four bytes have none
 abbrev pub width_flag : ℕ → ℕ
-width_flag last = if nat_lt last 256 then 8 else if nat_lt last 65536 then 16 else 0
+width_flag offset = if nat_lt offset 256 then 8 else if nat_lt offset 65536 then 16 else 0
 
 abbrev pub compact_flag : Shape → ℕ
 compact_flag (Named ids) = 0
@@ -279,11 +283,10 @@ object_bytes bits type shape [] =
 object_bytes bits type shape (piece ∷ pieces) =
     let fields = flat_map (λ bytes. bytes) (piece ∷ pieces) in
     let offsets = places_from 24 (piece ∷ pieces) in
-    let flags = bits + 2 + width_flag (last_of offsets) + compact_flag shape in
-    let footer = footer_bytes (offset_type flags) shape offsets in
+    let footer = footer_bytes (narrowest (last_of offsets)) shape offsets in
     header_bytes (record {
       version = 1;
-      flags = flags;
+      flags = bits + 2 + width_flag (last_of offsets) + compact_flag shape;
       type_id = type;
       hash = cast_signed w32 (BytesHash fields);
       length = pos (24 + length fields + length footer);
