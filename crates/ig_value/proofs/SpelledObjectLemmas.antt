@@ -1,24 +1,28 @@
 -- What follows of the spelling of an object: it keeps to the limits, it has a byte for each node, and
 -- its canonical form is no longer. And the canonical form of what keeps to the limits spells it.
-use Rattle.std.proofs.Common.{◌≡◌, ◌≢◌, ℕ, zero, suc, ◌+◌, ◌-◌, ◌*◌, ◌/◌, ◌%◌, ◌<◌, ◌≤◌, ◌^◌, ℤ, pos, Bool, true, false, cond, List, [], ◌∷◌, ◌++◌, length, map, take, drop, fold, Option, Some, None, ltb, refl, sym, ap, subst, ◌∙◌, append_assoc, arith, inl, inr, length-append}
+use Rattle.std.proofs.Common.{◌≡◌, ◌≢◌, ℕ, zero, suc, ◌+◌, ◌-◌, ◌*◌, ◌/◌, ◌%◌, ◌<◌, ◌≤◌, ◌^◌, ℤ, pos, Bool, true, false, cond, List, [], ◌∷◌, ◌++◌, length, map, take, drop, fold, Option, Some, None, ltb, eq-eqb, not, ◌&&◌, refl, sym, ap, subst, ◌∙◌, append_assoc, arith, inl, inr, length-append}
 use Rattle.std.specs.Prelude.{FitsSigned, slice_index}
 use Rattle.std.specs.Int.{Width, w8, w16, w32, byte_len, cast_signed, from_le_bytes}
 use Rattle.std.specs.List.{flat_map, sum_by, AllByRecursion}
 use mir.Val.{bits}
 use Rattle.std.proofs.Math.Nat.{mul-le-mul_left}
-use Rattle.std.proofs.lemmas.Bool.{cases_lt, lt-ltb, le-ltb}
+use Rattle.std.proofs.lemmas.Bool.{cases_lt, lt-ltb, le-ltb, ne_eqb}
 use Rattle.std.proofs.lemmas.List.{take-append-drop, length-take-le, length-map}
 use Rattle.std.proofs.lemmas.List.Sums.{sum_by-cons}
 use Rattle.ig_base.specs.Numbers.{AreBytes, LE}
+use Rattle.ig_base.specs.Hashes.{BytesHash, Fnv, fnv_step}
+use Rattle.ig_base.proofs.FrameLemmas.{append_bytes}
+use Rattle.ig_base.proofs.HashLemmas.{hash_after-in_range}
+use Rattle.std.proofs.Math.Facts.{sfits_to_z, Fits-of_lt}
 use Rattle.ig_base.specs.Headers.{has_flag, field_at, header_bytes, header_of}
 use Rattle.ig_base.specs.declared.header.Header.{Header}
 use Rattle.ig_value.specs.declared.object.Record.{Record}
 use Rattle.ig_value.specs.declared.object.Shape.{Shape}
 use Rattle.ig_value.specs.declared.object.Shape.TheVariants.{Named, Compact}
-use Rattle.ig_value.specs.Objects.{kept_flags, offset_type, size_of, named_footer, footer_bytes, HasNoFields, HasFields, AreLaid, IsObject, IsShape, places_from, last_of, narrowest, object_bytes}
+use Rattle.ig_value.specs.Objects.{kept_flags, schema_of, offset_type, size_of, named_footer, footer_bytes, HasNoFields, HasFields, AreLaid, IsObject, IsShape, places_from, last_of, narrowest, width_flag, compact_flag, canonical_schema, object_bytes}
 use Rattle.ig_value.specs.Limits.{IsLimitedShape, IsLimitedHead, IsLimitedObject, shape_nodes}
 use Rattle.ig_value.proofs.AgreesLemmas.{AreBytes-take, AreBytes-drop}
-use Rattle.ig_value.proofs.ScalarLemmas.{IsWide, wide8, wide16, wide32, signed_fits}
+use Rattle.ig_value.proofs.ScalarLemmas.{IsWide, wide8, wide16, wide32, signed_number, unsigned_number, signed_fits}
 use Rattle.ig_value.proofs.FooterLemmas.{wide_by, bits_by, named_len, bare_len}
 use Rattle.ig_value.proofs.HeaderLemmas.{header_there, header_prefix}
 
@@ -47,7 +51,9 @@ places_len at (piece ∷ pieces) = ap suc (places_len (at + length piece) pieces
 -- the length of an object's canonical form after its code
 object_len : (flags : ℕ) (type : ℤ) (shape : Shape) (pieces : List (List ℕ)) →
     length (object_bytes flags type shape pieces) ≡ 23 + (length (flat_map (λ (b : List ℕ). b) pieces) + length pieces * (shape_key shape + byte_len (narrowest (last_of (places_from 24 pieces)))))
-object_len flags type shape [] = omega (arith, header_len (record { version = 1; flags = flags; type_id = type; hash = _; length = pos 24; schema = pos 0; schema_at = pos 0 }))
+object_len flags type shape [] =
+    let h : length (object_bytes flags type shape []) ≡ 23 = header_len (record { version = 1; flags = flags; type_id = type; hash = cast_signed w32 (BytesHash []); length = pos 24; schema = pos 0; schema_at = pos 0 }) in
+    omega (arith, h)
 object_len flags type shape (piece ∷ pieces) =
     let fields = flat_map (λ (b : List ℕ). b) (piece ∷ pieces) in
     let offsets = places_from 24 (piece ∷ pieces) in
@@ -274,3 +280,191 @@ module _ {X : Type 0} (P : List ℕ → X → Type 0) where
               fields = laid_all F one 24 f.offsets f.fields o.fields f.laid;
             }
       ]
+
+-- ---- the canonical form spells
+
+fnv_below : (hash : ℕ) (bytes : List ℕ) → hash < 2 ^ 32 → fold fnv_step hash bytes < 2 ^ 32
+fnv_below hash [] lt = lt
+fnv_below hash (b ∷ bytes) lt = fnv_below (fnv_step hash b) bytes (omega arith)
+
+fnv_small : (ids : List ℤ) → Fnv ids < 2 ^ 32
+unfolding Fnv
+fnv_small [] = omega arith
+fnv_small (id ∷ ids) = fnv_below 0x811C9DC5 (flat_map (LE w32) (id ∷ ids)) (omega arith)
+
+cast_fits : (n : ℕ) → n < 2 ^ 32 → FitsSigned w32 (cast_signed w32 n)
+cast_fits n lt = sfits_to_z (Fits-of_lt lt)
+
+schema_fits : (ids : List ℤ) → FitsSigned w32 (schema_of ids)
+schema_fits ids = cast_fits (Fnv ids) (fnv_small ids)
+
+hash_fits : (bytes : List ℕ) → FitsSigned w32 (cast_signed w32 (BytesHash bytes))
+hash_fits bytes = cast_fits (BytesHash bytes) (hash_after-in_range 1 bytes (omega arith))
+
+-- a header whose numbers are in range
+record IsHeaderInRange (h : Header) : Type 0 where
+  pub version : h.version < 256
+  pub flags : h.flags < 2 ^ 16
+  pub type : FitsSigned w32 h.type_id
+  pub hash : FitsSigned w32 h.hash
+  pub length : FitsSigned w32 h.length
+  pub schema : FitsSigned w32 h.schema
+  pub schema_at : FitsSigned w32 h.schema_at
+
+cons_bytes : (b : ℕ) (s : List ℕ) → b < 256 → AreBytes s → AreBytes (b ∷ s)
+cons_bytes b s lt bytes zero = lt
+cons_bytes b s lt bytes (suc i) = bytes i
+
+last_bytes_16 : (z : ℤ) → AreBytes (LE w16 z)
+unfolding LE
+last_bytes_16 z zero = omega arith
+last_bytes_16 z (suc zero) = omega arith
+last_bytes_16 z (suc (suc i)) = omega arith
+
+last_bytes : (z : ℤ) → AreBytes (LE w32 z)
+unfolding LE
+last_bytes z zero = omega arith
+last_bytes z (suc zero) = omega arith
+last_bytes z (suc (suc zero)) = omega arith
+last_bytes z (suc (suc (suc zero))) = omega arith
+last_bytes z (suc (suc (suc (suc i)))) = omega arith
+
+header_are_bytes : (h : Header) → h.version < 256 → AreBytes (103 ∷ header_bytes h)
+unfolding header_bytes
+header_are_bytes h lt =
+    cons_bytes 103 (header_bytes h) (omega arith) (cons_bytes h.version _ lt
+    (append_bytes _ _ (append_bytes _ _ (append_bytes _ _ (append_bytes _ _ (append_bytes _ _ (last_bytes_16 (pos h.flags)) (last_bytes h.type_id)) (last_bytes h.hash)) (last_bytes h.length)) (last_bytes h.schema)) (last_bytes h.schema_at)))
+
+-- the numbers at the places of a header
+number_there : (z : ℤ) → FitsSigned w32 z → cast_signed w32 (from_le_bytes w32 (LE w32 z)) ≡ z
+number_there z fits = (signed_number w32 wide32).suffix z fits
+
+header_again : (h : Header) (rest : List ℕ) → IsHeaderInRange h → header_of (103 ∷ (header_bytes h ++ rest)) ≡ Some h
+unfolding header_of header_bytes LE
+header_again h rest r =
+    let flags : from_le_bytes w16 (LE w16 (pos h.flags)) ≡ h.flags = (unsigned_number w16 wide16).suffix h.flags r.flags in
+    let long : 24 ≤ length (103 ∷ (header_bytes h ++ rest)) = omega (arith, length-append (header_bytes h) rest, header_len h) in
+    let there : header_of (103 ∷ (header_bytes h ++ rest)) ≡ Some (record {
+      version = h.version;
+      flags = from_le_bytes w16 (LE w16 (pos h.flags));
+      type_id = cast_signed w32 (from_le_bytes w32 (LE w32 h.type_id));
+      hash = cast_signed w32 (from_le_bytes w32 (LE w32 h.hash));
+      length = cast_signed w32 (from_le_bytes w32 (LE w32 h.length));
+      schema = cast_signed w32 (from_le_bytes w32 (LE w32 h.schema));
+      schema_at = cast_signed w32 (from_le_bytes w32 (LE w32 h.schema_at));
+    }) = rw (le-ltb (length (103 ∷ (header_bytes h ++ rest))) 24 long) refl in
+    there ∙ (λ i. Some (record {
+      version = h.version;
+      flags = flags i;
+      type_id = number_there h.type_id r.type i;
+      hash = number_there h.hash r.hash i;
+      length = number_there h.length r.length i;
+      schema = number_there h.schema r.schema i;
+      schema_at = number_there h.schema_at r.schema_at i;
+    }))
+
+-- ---- flags
+
+-- what the canonical flags of an object with fields say
+record CanonicalFlags (kept : ℕ) (flags : ℕ) (one two compact : Bool) : Type 0 where
+  pub small : flags < 2 ^ 16
+  pub has_schema : has_flag 2 flags ≡ true
+  pub no_raw_data : has_flag 4 flags ≡ false
+  pub one_byte : has_flag 8 flags ≡ one
+  pub two_bytes : has_flag 16 flags ≡ two
+  pub is_compact : has_flag 32 flags ≡ compact
+  pub bits : kept ≡ kept_flags flags
+
+flag_set : (flag flags : ℕ) → flags / flag % 2 ≡ 1 → has_flag flag flags ≡ true
+flag_set flag flags e = eq-eqb (flags / flag % 2) 1 e
+
+flag_clear : (flag flags : ℕ) → flags / flag % 2 ≡ 0 → has_flag flag flags ≡ false
+flag_clear flag flags e = ne_eqb (flags / flag % 2) 1 (λ same. omega (arith, e, same))
+
+-- the number of a width's flag, and of a compact footer's
+abbrev width_number : Bool → Bool → ℕ
+width_number one two = cond one 8 (cond two 16 0)
+
+abbrev compact_number : Bool → ℕ
+compact_number compact = cond compact 32 0
+
+flags_by : (kept : ℕ) → kept < 2 ^ 16 → kept_flags kept ≡ kept → (one two compact : Bool) → CanonicalFlags kept (kept + 2 + width_number one two + compact_number compact) one (not one && two) compact
+flags_by kept lt same true two true = record { small = omega (arith, lt, same); has_schema = flag_set 2 _ (omega (arith, same)); no_raw_data = flag_clear 4 _ (omega (arith, same)); one_byte = flag_set 8 _ (omega (arith, same)); two_bytes = flag_clear 16 _ (omega (arith, same)); is_compact = flag_set 32 _ (omega (arith, same)); bits = omega (arith, same) }
+flags_by kept lt same true two false = record { small = omega (arith, lt, same); has_schema = flag_set 2 _ (omega (arith, same)); no_raw_data = flag_clear 4 _ (omega (arith, same)); one_byte = flag_set 8 _ (omega (arith, same)); two_bytes = flag_clear 16 _ (omega (arith, same)); is_compact = flag_clear 32 _ (omega (arith, same)); bits = omega (arith, same) }
+flags_by kept lt same false true true = record { small = omega (arith, lt, same); has_schema = flag_set 2 _ (omega (arith, same)); no_raw_data = flag_clear 4 _ (omega (arith, same)); one_byte = flag_clear 8 _ (omega (arith, same)); two_bytes = flag_set 16 _ (omega (arith, same)); is_compact = flag_set 32 _ (omega (arith, same)); bits = omega (arith, same) }
+flags_by kept lt same false true false = record { small = omega (arith, lt, same); has_schema = flag_set 2 _ (omega (arith, same)); no_raw_data = flag_clear 4 _ (omega (arith, same)); one_byte = flag_clear 8 _ (omega (arith, same)); two_bytes = flag_set 16 _ (omega (arith, same)); is_compact = flag_clear 32 _ (omega (arith, same)); bits = omega (arith, same) }
+flags_by kept lt same false false true = record { small = omega (arith, lt, same); has_schema = flag_set 2 _ (omega (arith, same)); no_raw_data = flag_clear 4 _ (omega (arith, same)); one_byte = flag_clear 8 _ (omega (arith, same)); two_bytes = flag_clear 16 _ (omega (arith, same)); is_compact = flag_set 32 _ (omega (arith, same)); bits = omega (arith, same) }
+flags_by kept lt same false false false = record { small = omega (arith, lt, same); has_schema = flag_set 2 _ (omega (arith, same)); no_raw_data = flag_clear 4 _ (omega (arith, same)); one_byte = flag_clear 8 _ (omega (arith, same)); two_bytes = flag_clear 16 _ (omega (arith, same)); is_compact = flag_clear 32 _ (omega (arith, same)); bits = omega (arith, same) }
+
+-- ---- the fields
+
+first_below : (at : ℕ) (pieces : List (List ℕ)) → pieces ≢ [] → at ≤ last_of (places_from at pieces)
+first_below at [] more = absurd (more refl)
+first_below at (piece ∷ []) more = omega arith
+first_below at (piece ∷ next ∷ pieces) more = omega (arith, first_below (at + length piece) (next ∷ pieces) (λ nil. cc))
+
+all_below : (m last at : ℕ) (pieces : List (List ℕ)) → last_of (places_from at pieces) ≡ last → last < m → AllByRecursion (λ n. n < m) (places_from at pieces)
+all_below m last at [] e lt = tt
+all_below m last at (piece ∷ []) e lt = (omega (arith, e, lt), tt)
+all_below m last at (piece ∷ next ∷ pieces) e lt = (omega (arith, first_below (at + length piece) (next ∷ pieces) (λ nil. cc), e, lt), all_below m last (at + length piece) (next ∷ pieces) e lt)
+
+-- the last place is within the pieces
+last_place : (at : ℕ) (pieces : List (List ℕ)) → last_of (places_from at pieces) ≤ at + length (flat_map (λ (b : List ℕ). b) pieces)
+last_place at [] = omega arith
+last_place at (piece ∷ []) = omega arith
+last_place at (piece ∷ next ∷ pieces) =
+    omega (arith, last_place (at + length piece) (next ∷ pieces), length-append piece (flat_map (λ (b : List ℕ). b) (next ∷ pieces)))
+
+type_by : (flags : ℕ) (one two : Bool) → has_flag 8 flags ≡ one → has_flag 16 flags ≡ (not one && two) → offset_type flags ≡ cond one w8 (cond two w16 w32)
+type_by flags true two a b = rw a refl
+type_by flags false two a b = rw (a, b) refl
+
+one_width_by : (flags : ℕ) (one two : Bool) → has_flag 8 flags ≡ one → has_flag 16 flags ≡ (not one && two) → (has_flag 8 flags && has_flag 16 flags) ≡ false
+one_width_by flags true two a b = rw (a, b) refl
+one_width_by flags false two a b = rw a refl
+
+in_type : (last : ℕ) → last < 2 ^ 32 → last < 2 ^ (8 * byte_len (narrowest last))
+in_type last lt =
+    elim (cases_lt last 256) [
+      | inl small ↦ rw (lt-ltb last 256 small) small
+      | inr big ↦
+          elim (cases_lt last 65536) [
+            | inl small ↦ rw (le-ltb last 256 big, lt-ltb last 65536 small) small
+            | inr more ↦ rw (le-ltb last 256 big, le-ltb last 65536 more) lt
+          ]
+    ]
+
+abbrev is_compact_shape : Shape → Bool
+is_compact_shape (Named ids) = false
+is_compact_shape (Compact schema) = true
+
+compact_is : (shape : Shape) → compact_flag shape ≡ compact_number (is_compact_shape shape)
+compact_is (Named ids) = refl
+compact_is (Compact schema) = refl
+
+canonical_shape : (header : Header) (shape : Shape) (n : ℕ) → IsLimitedShape n shape → has_flag 32 header.flags ≡ is_compact_shape shape → header.schema ≡ canonical_schema shape → IsShape header n shape
+canonical_shape header (Named ids) n f compact schema = (compact, schema, f.0, f.1)
+canonical_shape header (Compact id) n f compact schema = (compact, schema)
+
+canonical_schema_fits : (shape : Shape) (n : ℕ) → IsLimitedShape n shape → FitsSigned w32 (canonical_schema shape)
+canonical_schema_fits (Named ids) n f = schema_fits ids
+canonical_schema_fits (Compact id) n f = f.0
+
+empty_shape : (shape : Shape) → IsLimitedShape 0 shape → shape ≡ Named []
+empty_shape (Named []) f = refl
+empty_shape (Named (id ∷ ids)) f = absurd (omega (arith, f.1))
+empty_shape (Compact id) f = absurd (omega (arith, f.1))
+
+module _ {X : Type 0} (P : List ℕ → X → Type 0) (F : X → Type 0) (enc : X → List ℕ) (one : (x : X) → F x → length (enc x) < 2 ^ 31 → P (enc x) x) where
+  laid_spelled : (at : ℕ) (xs : List X) → AllByRecursion F xs → length (flat_map (λ (b : List ℕ). b) (map enc xs)) < 2 ^ 31 → AreLaid P at (places_from at (map enc xs)) (flat_map (λ (b : List ℕ). b) (map enc xs)) xs
+  laid_spelled at [] f lt = refl
+  laid_spelled at (x ∷ xs) f lt =
+      let len = length-append (enc x) (flat_map (λ (b : List ℕ). b) (map enc xs)) in
+      record {
+        prefix = enc x;
+        suffix = flat_map (λ (b : List ℕ). b) (map enc xs);
+        here = refl;
+        whole = refl;
+        first = one x f.0 (omega (arith, len, lt));
+        after = laid_spelled (at + length (enc x)) xs f.1 (omega (arith, len, lt));
+      }
