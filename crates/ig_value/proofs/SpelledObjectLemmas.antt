@@ -6,8 +6,8 @@ use Rattle.std.specs.Int.{Width, w8, w16, w32, byte_len, cast_signed, from_le_by
 use Rattle.std.specs.List.{flat_map, sum_by, AllByRecursion}
 use mir.Val.{bits}
 use Rattle.std.proofs.Math.Nat.{mul-le-mul_left}
-use Rattle.std.proofs.lemmas.Bool.{cases_lt, lt-ltb, le-ltb, ne_eqb}
-use Rattle.std.proofs.lemmas.List.{take-append-drop, length-take-le, length-map}
+use Rattle.std.proofs.lemmas.Bool.{cases_lt, lt-ltb, le-ltb, ne_eqb, and_left}
+use Rattle.std.proofs.lemmas.List.{append-nil, take_at, take-append-drop, length-take-le, length-map}
 use Rattle.std.proofs.lemmas.List.Sums.{sum_by-cons}
 use Rattle.ig_base.specs.Numbers.{AreBytes, LE}
 use Rattle.ig_base.specs.Hashes.{BytesHash, Fnv, fnv_step}
@@ -468,3 +468,109 @@ module _ {X : Type 0} (P : List ℕ → X → Type 0) (F : X → Type 0) (enc : 
         first = one x f.0 (omega (arith, len, lt));
         after = laid_spelled (at + length (enc x)) xs f.1 (omega (arith, len, lt));
       }
+
+  empty_spelled : (o : Record X) → IsLimitedHead o → o.fields ≡ [] → IsObject P (103 ∷ object_bytes o.bits o.type_id o.shape []) o
+  empty_spelled o f nil =
+      let header : Header = record { version = 1; flags = o.bits; type_id = o.type_id; hash = cast_signed w32 (BytesHash []); length = pos 24; schema = pos 0; schema_at = pos 0 } in
+      let range : IsHeaderInRange header = record {
+        version = omega arith;
+        flags = f.bits;
+        type = f.type;
+        hash = hash_fits [];
+        length = record { sfits = omega arith };
+        schema = record { sfits = omega arith };
+        schema_at = record { sfits = omega arith };
+      } in
+      let clear : has_flag 8 o.bits ≡ false = flag_clear 8 o.bits (omega (arith, f.kept)) in
+      record {
+        header = header;
+        begins = subst (λ (l : List ℕ). header_of (103 ∷ l) ≡ Some header) (append-nil (header_bytes header)) (header_again header [] range);
+        bytes = AreBytes-take 24 (103 ∷ header_bytes header) (header_are_bytes header (omega arith));
+        says = record {
+          version = refl;
+          no_raw_data = flag_clear 4 o.bits (omega (arith, f.kept));
+          one_width = and_left (has_flag 8 o.bits) (has_flag 16 o.bits) clear;
+          bits = sym f.kept;
+          type = refl;
+          registered = f.registered;
+          size = ap (λ (n : ℕ). pos (suc n)) (sym (header_len header));
+        };
+        fields = inl (record { alone = ap suc (header_len header); shape = empty_shape o.shape (subst (λ (n : ℕ). IsLimitedShape n o.shape) (ap length nil) f.shape); none = nil });
+      }
+
+  full_spelled : (o : Record X) (x : X) (xs : List X) → o.fields ≡ x ∷ xs → IsLimitedObject F o → suc (length (object_bytes o.bits o.type_id o.shape (map enc (x ∷ xs)))) < 2 ^ 31 →
+      IsObject P (103 ∷ object_bytes o.bits o.type_id o.shape (map enc (x ∷ xs))) o
+  full_spelled o x xs is f lt =
+      let pieces = map enc (x ∷ xs) in
+      let fields = flat_map (λ (b : List ℕ). b) pieces in
+      let offsets = places_from 24 pieces in
+      let last = last_of offsets in
+      let footer = footer_bytes (narrowest last) o.shape offsets in
+      let compact = is_compact_shape o.shape in
+      let one_byte = ltb last 256 in
+      let two_bytes = ltb last 65536 in
+      let flags = o.bits + 2 + width_flag last + compact_flag o.shape in
+      let flags-are : o.bits + 2 + width_number one_byte two_bytes + compact_number compact ≡ flags = ap (λ (n : ℕ). o.bits + 2 + width_flag last + n) (sym (compact_is o.shape)) in
+      let c : CanonicalFlags o.bits flags one_byte (not one_byte && two_bytes) compact =
+      subst (λ (n : ℕ). CanonicalFlags o.bits n one_byte (not one_byte && two_bytes) compact) flags-are (flags_by o.bits f.head.bits f.head.kept one_byte two_bytes compact) in
+      let type-is : offset_type flags ≡ narrowest last = type_by flags one_byte two_bytes c.one_byte c.two_bytes in
+      let header : Header = record {
+        version = 1;
+        flags = flags;
+        type_id = o.type_id;
+        hash = cast_signed w32 (BytesHash fields);
+        length = pos (24 + length fields + length footer);
+        schema = canonical_schema o.shape;
+        schema_at = pos (24 + length fields);
+      } in
+      let len : length (header_bytes header ++ (fields ++ footer)) ≡ 23 + (length fields + length footer) =
+      length-append (header_bytes header) (fields ++ footer) ∙ ap (λ (n : ℕ). n + length (fields ++ footer)) (header_len header) ∙ ap (λ (n : ℕ). 23 + n) (length-append fields footer) in
+      let small : suc (23 + (length fields + length footer)) < 2 ^ 31 = subst (λ (n : ℕ). suc n < 2 ^ 31) len lt in
+      let range : IsHeaderInRange header = record {
+        version = omega arith;
+        flags = c.small;
+        type = f.head.type;
+        hash = hash_fits fields;
+        length = record { sfits = omega (arith, small) };
+        schema = canonical_schema_fits o.shape (length o.fields) f.head.shape;
+        schema_at = record { sfits = omega (arith, small) };
+      } in
+      let head_len : length (103 ∷ header_bytes header) ≡ 24 = ap suc (header_len header) in
+      let head-is : take 24 (103 ∷ (header_bytes header ++ (fields ++ footer))) ≡ 103 ∷ header_bytes header = take_at (103 ∷ header_bytes header) (fields ++ footer) 24 head_len in
+      let all : AllByRecursion F (x ∷ xs) = subst (AllByRecursion F) is f.fields in
+      let laid : AreLaid P 24 offsets fields (x ∷ xs) = laid_spelled 24 (x ∷ xs) all (omega (arith, small)) in
+      let last_lt : last < 2 ^ 32 = omega (arith, last_place 24 pieces, small) in
+      record {
+        header = header;
+        begins = header_again header (fields ++ footer) range;
+        bytes = subst AreBytes (sym head-is) (header_are_bytes header (omega arith));
+        says = record {
+          version = refl;
+          no_raw_data = c.no_raw_data;
+          one_width = one_width_by flags one_byte two_bytes c.one_byte c.two_bytes;
+          bits = c.bits;
+          type = refl;
+          registered = f.head.registered;
+          size = ap pos (let n : 24 + length fields + length footer ≡ suc (length (header_bytes header ++ (fields ++ footer))) = omega (arith, len) in n);
+        };
+        fields = inr (record {
+          head = 103 ∷ header_bytes header;
+          fields = fields;
+          offsets = offsets;
+          whole = ap (λ (w : Width). 103 ∷ (header_bytes header ++ (fields ++ footer_bytes w o.shape offsets))) (sym type-is);
+          head_len = head_len;
+          some = λ nil. let no = sym is ∙ nil in cc;
+          has_schema = c.has_schema;
+          schema_at = refl;
+          shape = canonical_shape header o.shape (length o.fields) f.head.shape c.is_compact refl;
+          in_width = subst (λ (w : Width). AllByRecursion (λ n. n < 2 ^ (8 * byte_len w)) offsets) (sym type-is) (all_below (2 ^ (8 * byte_len (narrowest last))) last 24 pieces refl (in_type last last_lt));
+          laid = subst (λ (l : List X). AreLaid P 24 offsets fields l) (sym is) laid;
+        });
+      }
+
+  spelled_by : (o : Record X) (xs : List X) → o.fields ≡ xs → IsLimitedObject F o → suc (length (object_bytes o.bits o.type_id o.shape (map enc xs))) < 2 ^ 31 → IsObject P (103 ∷ object_bytes o.bits o.type_id o.shape (map enc xs)) o
+  spelled_by o [] is f lt = empty_spelled o f.head is
+  spelled_by o (x ∷ xs) is f lt = full_spelled o x xs is f lt
+
+  pub object_spelled : (o : Record X) → IsLimitedObject F o → suc (length (object_bytes o.bits o.type_id o.shape (map enc o.fields))) < 2 ^ 31 → IsObject P (103 ∷ object_bytes o.bits o.type_id o.shape (map enc o.fields)) o
+  object_spelled o f lt = spelled_by o o.fields refl f lt
