@@ -1,10 +1,11 @@
 //! Copies of trees.
 
 ghost use Rattle.std.specs.Prelude.{◌≡◌, IfOk};
+ghost use Rattle.ig_value.specs.declared.value.Value.TheVariants as value;
 
 use crate::leaves::{Leaf, copy_leaves, copy_plain};
 use crate::object::Record;
-use crate::value::Value;
+use crate::value::{Object, Value};
 use ig_base::{Boxed, Items, NoMemory};
 use std::alloc::Global;
 
@@ -74,17 +75,28 @@ impl Value {
                 ordinal: *ordinal,
             },
             Value::Null => Value::Null,
-            Value::Object(object) => Value::Object(Boxed::new(
-                alloc,
-                Record {
-                    bits: object.get().bits,
-                    type_id: object.get().type_id,
-                    shape: object.get().shape.copy(alloc)?,
-                    fields: copy_values(alloc, object.get().fields.as_slice())?,
-                },
-            )?),
+            Value::Object(object) => {
+                let fields = copy_values(alloc, object.get().fields.as_slice())?;
+                object_like(alloc, object.get(), fields)?
+            }
         })
     }
+}
+
+/// An object that is equal but for its fields, which are given and equal too.
+fn object_like(alloc: Global, object: &Object, fields: Items<Value>) -> Result<Value, NoMemory>
+    requires { fields ≡ object.now.fields }
+    ensures { IfOk result (λ made. made ≡ value.Object object.now) }
+{
+    let (bits, type_id) = (object.bits, object.type_id);
+    let shape = object.shape.copy(alloc)?;
+    let copied = Record {
+        bits,
+        type_id,
+        shape,
+        fields,
+    };
+    Ok(Value::Object(Boxed::new(alloc, copied)?))
 }
 
 /// A list of equal values.

@@ -1,5 +1,5 @@
 -- The depth of each variant, and the steps of the two loops.
-use Rattle.std.proofs.Common.{◌≡◌, ◌≤◌, max, map, ap, sym, arith, add-one}
+use Rattle.std.proofs.Common.{◌≡◌, ◌≤◌, max, map, ap, sym, ◌∙◌, arith, add-one}
 use Rattle.ig_value.specs.Limits.{Depth, greatest, pair_depth}
 use Rattle.ig_value.proofs.DepthLemmas.{greatest_item, greatest_more, Depth_objects, Depth_collection, Depth_map, Depth_enums, Depth_object, Depth_default}
 use Rattle.ig_value.proofs.+depth.Goals as goal
@@ -112,14 +112,17 @@ depth::greatest_pair_depth-loop-pair-preserved t c =
 pub value::Value::depth-greatest_depth-requires-in-Object : goal.value::Value::depth-greatest_depth-requires-in-Object
 value::Value::depth-greatest_depth-requires-in-Object t c =
     let d = Depth_object c.args.self.now c.in-Object.object c.in-Object.is in
-    ?
+    let same = ap (λ l. greatest (map Depth l)) (c.as_slice-in-Object.ensures ∙ ap (λ o. o.fields) c.get.ensures) in
+    (omega (arith, same), omega (arith, same))
 
 pub value::Value::depth-overflow_add-result-in-Object : goal.value::Value::depth-overflow_add-result-in-Object
 value::Value::depth-overflow_add-result-in-Object t c =
     let d = Depth_object c.args.self.now c.in-Object.object c.in-Object.is in
-    ?
+    let same = ap (λ l. greatest (map Depth l)) (c.as_slice-in-Object.ensures ∙ ap (λ o. o.fields) c.get.ensures) in
+    omega (arith, c.greatest_depth-in-Object.ensures, same)
 
 pub value::Value::depth-returns-in-Object : goal.value::Value::depth-returns-in-Object
 value::Value::depth-returns-in-Object t c =
     let d = Depth_object c.args.self.now c.in-Object.object c.in-Object.is in
-    ?
+    let same = ap (λ l. greatest (map Depth l)) (c.as_slice-in-Object.ensures ∙ ap (λ o. o.fields) c.get.ensures) in
+    omega (arith, c.greatest_depth-in-Object.ensures, same)
