@@ -13,12 +13,20 @@ use Rattle.ig_value.specs.Limits.{IsLimitedObject, FitsTo, Depth}
 abbrev pub AreShallow : List (ℤ × Value) → Type 0
 AreShallow fields = AllByRecursion (λ f. Depth f.1 < 32) fields
 
--- the object of this type with these fields, and it keeps to the limits
-pub record IsBuilt (bits : ℕ) (type : ℤ) (fields : List (ℤ × Value)) (o : Record Value) : Type 0 where
+-- the object with these bits, of this type, with these fields, each after its identifier
+abbrev pub object_of : ℕ → ℤ → List (ℤ × Value) → Record Value
+object_of bits type fields = record { bits = bits; type_id = type; shape = Named (map (λ f. f.0) fields); fields = map (λ f. f.1) fields }
+
+-- there is such an object
+pub record IsBuildable (bits : ℕ) (type : ℤ) (fields : List (ℤ × Value)) : Type 0 where
   pub kept : kept_flags bits ≡ bits
   pub registered : type ≢ pos 0
   pub shallow : AreShallow fields
-  pub is : o ≡ record { bits = bits; type_id = type; shape = Named (map (λ f. f.0) fields); fields = map (λ f. f.1) fields }
+
+-- there is, it is this one, and it keeps to the limits
+pub record IsBuilt (bits : ℕ) (type : ℤ) (fields : List (ℤ × Value)) (o : Record Value) : Type 0 where
+  pub right : IsBuildable bits type fields
+  pub is : o ≡ object_of bits type fields
   pub fits : IsLimitedObject (FitsTo 31) o
 
 -- the refusal is right; out of memory always is

@@ -1,9 +1,10 @@
 //! Building an object from its fields.
 
-ghost use Rattle.std.specs.Prelude.{◌<◌, ◌^◌, length, MatchResult, IsTrue, IsFalse};
+ghost use Rattle.std.specs.Prelude.{◌≡◌, ◌<◌, ◌^◌, length, MatchResult, IsNone, IfSome, IsTrue, IsFalse};
 ghost use Rattle.std.specs.List.{AllByRecursion};
 ghost use Rattle.ig_value.specs.Limits.{Fits, Depth};
-ghost use Rattle.ig_value.specs.Build.{IsBuilt, IsRefused, AreShallow};
+ghost use Rattle.ig_value.specs.Build.{IsBuildable, IsBuilt, IsRefused, AreShallow, object_of};
+ghost use Rattle.ig_value.specs.declared.build.BuildFault.TheVariants as build;
 
 use crate::object::{Record, Shape};
 use crate::value::{DEEPEST, Object, Value};
@@ -25,12 +26,16 @@ pub enum BuildFault {
 }
 
 impl From<AllocError> for BuildFault {
+    ghost from_gives = { λ _ e. e ≡ build.NoMemory };
+
     fn from(_error: AllocError) -> BuildFault {
         BuildFault::NoMemory
     }
 }
 
 impl<T: Drop> From<AllocFailed<T>> for BuildFault {
+    ghost from_gives = { λ _ e. e ≡ build.NoMemory };
+
     fn from(_error: AllocFailed<T>) -> BuildFault {
         BuildFault::NoMemory
     }
@@ -53,28 +58,53 @@ impl Record<Value> {
         ensures { MatchResult result (IsBuilt bits type_id fields.items)
             (IsRefused bits type_id fields.items) }
     {
-        if bits / 64 * 64 + bits % 2 != bits {
-            return Err(BuildFault::Bits);
+        match refusal(bits, type_id, &fields) {
+            Some(fault) => Err(fault),
+            None => assemble(alloc, bits, type_id, fields),
         }
-        if type_id == 0 {
-            return Err(BuildFault::TypeId);
-        }
-        if !are_shallow(&fields) {
-            return Err(BuildFault::Deep);
-        }
-        let mut ids = Vec::with_capacity(alloc, fields.len())?;
-        let mut values = Vec::with_capacity(alloc, fields.len())?;
-        for (id, value) in fields {
-            ids.push(id)?;
-            values.push(value)?;
-        }
-        Ok(Record {
-            bits,
-            type_id,
-            shape: Shape::Named(Items::new(ids)),
-            fields: Items::new(values),
-        })
     }
+}
+
+/// Why the object can't be built, if it can't.
+fn refusal(bits: u16, type_id: i32, fields: &[(i32, Value)]) -> Option<BuildFault>
+    requires { AllByRecursion (λ f. Fits f.1) fields.now }
+    ensures none { IsNone result → IsBuildable bits type_id fields.now }
+    ensures some { IfSome result (IsRefused bits type_id fields.now) }
+{
+    if bits / 64 * 64 + bits % 2 != bits {
+        return Some(BuildFault::Bits);
+    }
+    if type_id == 0 {
+        return Some(BuildFault::TypeId);
+    }
+    if !are_shallow(fields) {
+        return Some(BuildFault::Deep);
+    }
+    None
+}
+
+/// The object with these fields.
+fn assemble(
+    alloc: Global,
+    bits: u16,
+    type_id: i32,
+    fields: Vec<(i32, Value)>,
+) -> Result<Object, BuildFault>
+    ensures { MatchResult result (λ o. o ≡ object_of bits type_id fields.items)
+        (λ fault. fault ≡ build.NoMemory) }
+{
+    let mut ids = Vec::with_capacity(alloc, fields.len())?;
+    let mut values = Vec::with_capacity(alloc, fields.len())?;
+    for (id, value) in fields {
+        ids.push(id)?;
+        values.push(value)?;
+    }
+    Ok(Record {
+        bits,
+        type_id,
+        shape: Shape::Named(Items::new(ids)),
+        fields: Items::new(values),
+    })
 }
 
 /// Whether each field may stand in an object.
