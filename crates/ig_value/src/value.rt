@@ -24,9 +24,9 @@ pub const DEEPEST: u32 = 32;
 /// A value, as a tree. Each variant is a row of the format, with its code. Numbers are kept as they
 /// were read, also those without a meaning, as a kind of collection that nobody knows.
 ///
-/// A value keeps to the limits where it is at most [`DEEPEST`] levels deep and each text and list
-/// in it has at most 2^31 - 1 bytes or items: `Fits` in `specs/Limits.antt`. Whatever is decoded
-/// does. A tree that a caller builds may break them: [`Value::keeps_to_limits`] tells, and it is
+/// A value keeps to the limits where it is at most [`DEEPEST`] levels deep, each text and list in
+/// it has at most 2^31 - 1 bytes or items, and each object is as [`Record`] says: `Fits` in
+/// `specs/Limits.antt`. Whatever is decoded does. A tree that a caller builds may break them: [`Value::keeps_to_limits`] tells, and it is
 /// safe to call on any tree.
 #[derive(Debug, Drop)]
 pub enum Value {

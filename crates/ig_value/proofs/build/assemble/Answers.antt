@@ -1,0 +1,11 @@
+use Rattle.std.proofs.Common.{arith}
+use Rattle.ig_value.proofs.build.assemble.Goals as goal
+
+pub loop-id-init : goal.loop-id-init
+loop-id-init c = ?
+
+pub loop-id-preserved : goal.loop-id-preserved
+loop-id-preserved c = ?
+
+pub returns : goal.returns
+returns c = ?
