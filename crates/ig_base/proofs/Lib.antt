@@ -1,2 +1,4 @@
 pub mod NumberLemmas
 pub mod FrameLemmas
+pub mod HashLemmas
+pub mod HeaderLemmas

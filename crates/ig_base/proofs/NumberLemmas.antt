@@ -1,5 +1,5 @@
 -- Lemmas on numbers as little-endian bytes.
-use Rattle.std.proofs.Common.{◌≡◌, ℕ, ◌+◌, ◌<◌, ◌≤◌, ◌^◌, ℤ, List, ◌++◌, length, take, drop, None, Some, refl, sym, ap, ◌∙◌, lit<, arith, length-take-le, get_or-take, inl, inr}
+use Rattle.std.proofs.Common.{◌≡◌, ℕ, ◌+◌, ◌<◌, ◌≤◌, ◌^◌, ℤ, List, ◌++◌, length, take, drop, None, Some, refl, sym, ap, ◌∙◌, lit<, arith, length-take-le, get_or-take, get_or-drop, inl, inr}
 use Rattle.std.proofs.Math.Facts.{Fits-of_z}
 use Rattle.std.proofs.lemmas.Bool.{le-ltb, lt-ltb, cond-true, cond-false, cases_lt}
 use Rattle.std.proofs.lemmas.Int.{to_z-of_z, of_z-to_z}
@@ -52,6 +52,10 @@ take-bytes n bytes are i = elim (cases_lt i n) [
   | inl within ↦ let same = get_or-take n bytes i 0 within in omega (arith, same, are i)
   | inr past ↦ let none = get_or_past (take n bytes) i 0 (omega (arith, length-take n bytes)) in omega (arith, none)
 ]
+
+-- a suffix of bytes is bytes
+pub drop-bytes : (n : ℕ) (bytes : List ℕ) → AreBytes bytes → AreBytes (drop n bytes)
+drop-bytes n bytes are i = let same = get_or-drop n bytes i 0 in omega (arith, same, are (n + i))
 
 -- the bytes that are read as a number are its bytes
 pub LE-number_at_32 : (z : ℤ) (bytes : List ℕ) → AreBytes bytes → number_at w32 bytes 0 ≡ Some z → LE w32 z ≡ take 4 bytes

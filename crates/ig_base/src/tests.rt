@@ -72,6 +72,54 @@ fn hashes_are_those_of_java(rt: HostRuntime) {
     }
 }
 
+/// The identifier of a name is the hash of the name in lower case; a byte above 127 has a place.
+#[test]
+fn names_have_identifiers(rt: HostRuntime) {
+    assert_eq!(rt; name_id("Person"), Ok(0xC4E3_9B55u32.cast_signed()));
+    assert_eq!(rt; name_id("person"), Ok(text_hash("person")));
+    assert_eq!(rt; name_id("né"), Err(NotAscii { at: 1 }));
+}
+
+/// The header of an object with one field, an Int32 `a` that is 5, and the form of its footer.
+#[test]
+fn headers_and_hashes_of_an_object(rt: HostRuntime) {
+    let object: [u8; 34] = [
+        0x67, 1, 0x0B, 0, 0x70, 0, 0, 0, 0xFD, 0x64, 0xE1, 1, 34, 0, 0, 0, 0xE4, 0xD3, 0xE1, 0xF5,
+        29, 0, 0, 0, 3, 5, 0, 0, 0, 97, 0, 0, 0, 24,
+    ];
+    let header = Header {
+        version: 1,
+        flags: USER_TYPE + HAS_SCHEMA + ONE_BYTE_OFFSETS,
+        type_id: 112,
+        hash: 0x01E1_64FD,
+        length: 34,
+        schema: 0xF5E1_D3E4u32.cast_signed(),
+        schema_at: 29,
+    };
+    assert_eq!(rt; read_header(&object), Some(header));
+    assert_eq!(rt; read_header(&object[..23]), None);
+    assert_eq!(rt; bytes_hash(&object[24..29]), header.hash);
+    assert_eq!(rt; bytes_hash(&[3, 0xFF, 0xFF, 0xFF, 0xFF]), 0x01DE_A6E2);
+    assert_eq!(rt; schema_id(&[97]), header.schema);
+    assert_eq!(rt;
+        schema_id(&[text_hash("name"), text_hash("age")]),
+        0x7400_A905
+    );
+    assert_eq!(rt; schema_id(&[]), 0);
+    let compact = false;
+    assert_eq!(rt; footer_of(header.flags), Some(Footer { compact, width: 1 }));
+    assert_eq!(rt; footer_of(HAS_SCHEMA), Some(Footer { compact, width: 4 }));
+    let flags = TWO_BYTE_OFFSETS + COMPACT_FOOTER;
+    assert_eq!(rt;
+        footer_of(flags),
+        Some(Footer {
+            compact: true,
+            width: 2
+        })
+    );
+    assert_eq!(rt; footer_of(ONE_BYTE_OFFSETS + TWO_BYTE_OFFSETS), None);
+}
+
 /// A vector or a string that was wrapped is unwrapped as it was.
 #[test]
 fn wrapped_values_come_back(rt: HostRuntime) -> Result<(), Fail> {
@@ -94,8 +142,10 @@ fn wrapped_values_come_back(rt: HostRuntime) -> Result<(), Fail> {
 
 /// The texts of the errors, with and without an argument handed back.
 #[test]
-fn errors_say_no_memory(rt: HostRuntime) -> Result<(), Fail> {
+fn errors_have_texts(rt: HostRuntime) -> Result<(), Fail> {
     let text = format!(in rt.alloc(); "{} / {}", NoMemory, NoRoom { back: 7u64 })?;
     assert!(rt; text.as_str() == "no memory / no memory");
+    let text = format!(in rt.alloc(); "{}", NotAscii { at: 1 })?;
+    assert!(rt; text.as_str() == "the name isn't ASCII at byte 1");
     Ok(())
 }

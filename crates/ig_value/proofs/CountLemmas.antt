@@ -67,7 +67,7 @@ count_negative s at c w =
     let is : scalar_at i32 s ≡ Ok (negsuc w.below, w.rest) = rw w.whole ((scalar_agrees i32).again (LE w32 (negsuc w.below)) (negsuc w.below) w.rest right) in
     rw (is, w.cause) refl
 
-LE-length : (z : ℤ) → length (LE w32 z) ≡ 4
+pub LE-length : (z : ℤ) → length (LE w32 z) ≡ 4
 unfolding LE
 LE-length z = refl
 

@@ -1,7 +1,7 @@
 -- The folds over a value, as equations over one level of it.
 use Rattle.std.proofs.Common.{◌≡◌, ℕ, suc, ◌+◌, pos, length, List, [], ◌∷◌, ◌++◌, map, refl, sym, ap, ◌∙◌}
 use Rattle.std.specs.List.{flat_map, sum_by}
-use Rattle.std.proofs.lemmas.List.{length-map}
+use Rattle.std.proofs.lemmas.List.{length-map, map-id}
 use Rattle.std.proofs.lemmas.List.Sums.{sum_by-cons}
 use Rattle.ig_value.specs.declared.value.Value.{Value, out-Value}
 use Rattle.ig_value.specs.declared.value.Value.TheOpen.{Value-F}
@@ -9,8 +9,9 @@ use Rattle.ig_value.specs.declared.value.Value.TheFolds.{map-Value, fold_out-Val
 use Rattle.std.specs.Int.{w8, w32}
 use Rattle.ig_base.specs.Numbers.{LE}
 use Rattle.ig_value.specs.Table.{content, parts}
+use Rattle.ig_value.specs.Objects.{object_bytes}
 use Rattle.ig_value.specs.Canon.{layer_bytes, Canon}
-use Rattle.ig_value.specs.Limits.{greatest, children, Depth, part_nodes, Nodes}
+use Rattle.ig_value.specs.Limits.{greatest, children, Depth, part_nodes, shape_nodes, Nodes}
 
 flat_map_mapped : {X : Type 0} (h : X → List ℕ) (xs : List X) → flat_map (λ b. b) (map h xs) ≡ flat_map h xs
 flat_map_mapped h [] = refl
@@ -37,6 +38,7 @@ layer_mapped h (Value-F.Objects type xs) = ap (λ (l : List ℕ). 23 ∷ (LE w32
 layer_mapped h (Value-F.Collection kind xs) = ap (λ (l : List ℕ). 24 ∷ l) (counted_mapped h (LE w8 kind) xs)
 layer_mapped h (Value-F.Map kind ps) = ap (λ (l : List ℕ). 25 ∷ l) (pairs_mapped h (LE w8 kind) ps)
 layer_mapped h (Value-F.Enums type xs) = ap (λ (l : List ℕ). 29 ∷ (LE w32 type ++ l)) (counted_mapped h [] xs)
+layer_mapped h (Value-F.Object o) = ap (λ (l : List (List ℕ)). 103 ∷ object_bytes o.bits o.type_id o.shape l) (map-id (map h o.fields))
 layer_mapped h _ = refl
 
 -- the canonical spelling of a value, by those of the values inside
@@ -77,6 +79,7 @@ nodes_mapped h (Value-F.Objects type xs) = ap (λ (n : ℕ). suc (1 + (0 + n))) 
 nodes_mapped h (Value-F.Collection kind xs) = ap (λ (n : ℕ). suc (1 + n)) (sum_mapped h xs)
 nodes_mapped h (Value-F.Map kind ps) = ap (λ (n : ℕ). suc (1 + n)) (sum_paired h ps)
 nodes_mapped h (Value-F.Enums type xs) = ap (λ (n : ℕ). suc (1 + (0 + n))) (sum_mapped h xs)
+nodes_mapped h (Value-F.Object o) = ap (λ (n : ℕ). suc (2 + shape_nodes o.shape + n)) (sum_mapped h o.fields)
 nodes_mapped h _ = refl
 
 -- the nodes of a value, by those of the values inside

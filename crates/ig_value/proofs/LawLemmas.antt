@@ -15,7 +15,7 @@ use Rattle.ig_value.specs.Laws.{BeginsWithValue, HasStop, EveryInputIsDecided, O
 use Rattle.ig_value.proofs.AgreesLemmas.{ok_is, err_is}
 use Rattle.ig_value.proofs.ValueLemmas.{value_agrees}
 use Rattle.ig_value.proofs.FoldLemmas.{Depth_out}
-use Rattle.ig_value.proofs.SpelledLemmas.{spelled_canonical, spelled_fits, fits_spelled, spelled_nodes, fits_depth}
+use Rattle.ig_value.proofs.SpelledLemmas.{spelled_least, spelled_fits, fits_spelled, spelled_nodes, fits_depth}
 
 -- what reading gave
 decided_by : (s : List ℕ) → AreBytes s → (r : Read Value) → value_at 32 s ≡ r → BeginsWithValue s ⊎ HasStop s
@@ -72,11 +72,11 @@ spelled_values_fit s v h = spelled_fits 32 s v h
 
 pub canon_spells : CanonSpells
 unfolding Spells Fits
-canon_spells v fits sendable = fits_spelled 32 v fits
+canon_spells v fits sendable = fits_spelled 32 v fits sendable
 
 pub canon_is_shortest : CanonIsShortest
 unfolding Spells
-canon_is_shortest s v h = omega (arith, ap length (spelled_canonical 32 s v h))
+canon_is_shortest s v h = spelled_least 32 s v h
 
 pub canon_tells_apart : CanonTellsApart
 canon_tells_apart v w f g sendable e =
@@ -106,6 +106,7 @@ layer_refit F G D one (Value-F.Objects type xs) f d = (f.0, (f.1.0, (tt, all_ref
 layer_refit F G D one (Value-F.Collection kind xs) f d = (f.0, (f.1.0, all_refit F G D one xs f.1.1 d))
 layer_refit F G D one (Value-F.Map kind ps) f d = (f.0, (f.1.0, pairs_refit F G D one ps f.1.1 d))
 layer_refit F G D one (Value-F.Enums type xs) f d = (f.0, (f.1.0, (tt, all_refit F G D one xs f.1.1.1 d)))
+layer_refit F G D one (Value-F.Object o) f d = record { head = f.head; few = f.few; fields = all_refit F G D one o.fields f.fields d }
 layer_refit F G D one _ f d = f
 
 pub fits_at_its_depth : FitsAtItsDepth

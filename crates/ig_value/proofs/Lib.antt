@@ -4,9 +4,15 @@ pub mod ScalarLemmas
 pub mod CountLemmas
 pub mod PartLemmas
 pub mod RowLemmas
+pub mod LaidLemmas
+pub mod FooterLemmas
+pub mod HeaderLemmas
+pub mod ObjectLemmas
+pub mod SpelledObjectLemmas
 pub mod ValueLemmas
 pub mod FoldLemmas
 pub mod SpelledLemmas
 pub mod DepthLemmas
 pub mod LawLemmas
 pub mod LimitsLemmas
+pub mod BuildLemmas

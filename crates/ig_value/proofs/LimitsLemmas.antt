@@ -1,11 +1,13 @@
 -- The limits of a value, by its code and its content.
-use Rattle.std.proofs.Common.{◌≡◌, ℕ, zero, suc, ◌-◌, Bool, subst, sym, ap, ◌∙◌, arith, refl}
+use Rattle.std.proofs.Common.{◌≡◌, ℕ, zero, suc, ◌-◌, ◌<◌, ◌^◌, List, length, Bool, subst, sym, ap, ◌∙◌, arith, refl}
 use Rattle.std.specs.Prelude.{IsTrue, ◌↔◌}
 use Rattle.ig_value.specs.declared.code.Code.{Code}
 use Rattle.ig_value.specs.declared.value.Value.{Value, out-Value}
 use Rattle.ig_value.specs.Part.{Content}
 use Rattle.ig_value.specs.Table.{content, parts, value_with}
-use Rattle.ig_value.specs.Limits.{FitsPart, FitsTo}
+use Rattle.std.specs.List.{AllByRecursion}
+use Rattle.ig_value.specs.declared.object.Record.{Record}
+use Rattle.ig_value.specs.Limits.{FitsPart, FitsTo, IsLimitedHead, IsLimitedObject}
 use Rattle.ig_value.proofs.RowLemmas.{Row, built}
 
 abbrev FitsRow : ℕ → Row → Type 0
@@ -28,3 +30,9 @@ typed_before h = (λ a. let p = h.0 a in (p.0, (p.1, (tt, p.2))), λ p. h.1 (p.0
 
 pub kind_before : {A B C D : Type 0} → (A ↔ (B × C × D)) → A ↔ (B × (C × D))
 kind_before h = (λ a. let p = h.0 a in (p.0, (p.1, p.2)), λ p. h.1 (p.0, p.1.0, p.1.1))
+
+pub object_before : {A Head : Type 0} {X : Type 0} (F : X → Type 0) (o : Record X) (fields : List X) → fields ≡ o.fields → (Head ↔ ((length o.fields < 2 ^ 31) × IsLimitedHead o)) → (A ↔ (Head × (length fields < 2 ^ 31) × AllByRecursion F fields)) →
+    A ↔ IsLimitedObject F o
+object_before F o fields same head h =
+    (λ a. let p = h.0 a in record { head = (head.0 p.0).1; few = subst (λ l. length l < 2 ^ 31) same p.1; fields = subst (AllByRecursion F) same p.2 },
+    λ l. h.1 (head.1 (l.few, l.head), subst (λ l. length l < 2 ^ 31) (sym same) l.few, subst (AllByRecursion F) (sym same) l.fields))

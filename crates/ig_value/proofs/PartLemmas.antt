@@ -6,7 +6,7 @@ use Rattle.ig_value.specs.declared.code.Code.{Code}
 use Rattle.ig_value.specs.declared.code.Code.TheVariants as code
 use Rattle.ig_value.specs.declared.value.Dec.{Dec}
 use Rattle.ig_value.specs.declared.value.Stamp.{Stamp}
-use Rattle.ig_value.specs.Part.{i32, i64, u64, Part, nothing, scalar, text, octets, uuid, stamp, decimal, value, both, counted, optional}
+use Rattle.ig_value.specs.Part.{i32, i64, u64, Part, nothing, scalar, text, octets, uuid, stamp, decimal, value, object, both, counted, optional}
 use Rattle.ig_value.specs.Table.{byte_of, content}
 use Rattle.ig_value.specs.Spells.{IsScalar, IsBoth, IsMany, IsRun, IsTextRun, IsCounted, SpellsPart}
 use Rattle.ig_value.specs.Stops.{StopsScalar, StopsBoth, StopsMany, StopsRun, StopsTextRun, StopsCounted, StopsPart}
@@ -16,12 +16,18 @@ use Rattle.ig_value.proofs.ItemLemmas.{optional_agrees}
 use Rattle.ig_value.proofs.ScalarLemmas.{scalar_agrees}
 use Rattle.ig_value.proofs.CountLemmas.{counted_agrees, run_agrees, text_run_agrees}
 
--- no code but null's own stands for null
+-- no code but null's own stands for null, and no part is an object
 abbrev pub IsProper : Part → Type 0
 IsProper (both p q) = IsProper p × IsProper q
 IsProper (counted p q) = IsProper p × IsProper q
 IsProper (optional c p) = (byte_of c ≢ byte_of code.Null) × IsProper p
+IsProper object = ⊥
 IsProper _ = Unit {0}
+
+-- the codes but an object's
+abbrev pub IsPlain : Code → Type 0
+IsPlain code.Object = ⊥
+IsPlain _ = Unit {0}
 
 octets_agrees : Agrees (IsCounted IsRun) (StopsCounted StopsRun) (counted_at run_at)
 octets_agrees = counted_agrees IsRun StopsRun run_at run_agrees
@@ -42,6 +48,7 @@ part_agrees P W R a decimal proper =
     seen_agrees {B = Dec} (λ x. record { scale = x.0; bytes = x.1 }) (λ x. (x.scale, x.bytes)) (IsBoth (IsScalar i32) (IsCounted IsRun)) (StopsBoth (IsScalar i32) (StopsScalar i32) (StopsCounted StopsRun)) (both_at (scalar_at i32) (counted_at run_at)) (λ x. refl) (λ y. refl)
     (both_agrees (IsScalar i32) (StopsScalar i32) (scalar_at i32) (IsCounted IsRun) (StopsCounted StopsRun) (counted_at run_at) (scalar_agrees i32) octets_agrees)
 part_agrees P W R a value proper = a
+part_agrees P W R a object proper = absurd proper
 part_agrees P W R a (both p q) proper =
     both_agrees (SpellsPart P p) (StopsPart P W p) (part_at R p) (SpellsPart P q) (StopsPart P W q) (part_at R q) (part_agrees P W R a p proper.0) (part_agrees P W R a q proper.1)
 part_agrees P W R a (counted p q) proper =
@@ -52,26 +59,27 @@ part_agrees P W R a (counted p q) proper =
 part_agrees P W R a (optional c p) proper =
     optional_agrees c (SpellsPart P p) (StopsPart P W p) (part_at R p) (part_agrees P W R a p proper.1) proper.0
 
-pub content_proper : (c : Code) → IsProper (content c)
-content_proper code.Strs = (tt, (λ e. absurd (omega (arith, e)), tt))
-content_proper code.Uuids = (tt, (λ e. absurd (omega (arith, e)), tt))
-content_proper code.Dates = (tt, (λ e. absurd (omega (arith, e)), tt))
-content_proper code.Decimals = (tt, (λ e. absurd (omega (arith, e)), tt))
-content_proper code.Timestamps = (tt, (λ e. absurd (omega (arith, e)), tt))
-content_proper code.Times = (tt, (λ e. absurd (omega (arith, e)), tt))
-content_proper code.Map = (tt, (tt, tt))
-content_proper code.Objects = (tt, (tt, tt))
-content_proper code.Enums = (tt, (tt, tt))
-content_proper code.Collection = (tt, tt)
-content_proper code.Wrapped = (tt, tt)
-content_proper code.Enum = (tt, tt)
-content_proper code.BinaryEnum = (tt, tt)
-content_proper code.Bytes = (tt, tt)
-content_proper code.Shorts = (tt, tt)
-content_proper code.Ints = (tt, tt)
-content_proper code.Longs = (tt, tt)
-content_proper code.Floats = (tt, tt)
-content_proper code.Doubles = (tt, tt)
-content_proper code.Chars = (tt, tt)
-content_proper code.Bools = (tt, tt)
-content_proper _ = tt
+pub content_proper : (c : Code) → IsPlain c → IsProper (content c)
+content_proper code.Object plain = absurd plain
+content_proper code.Strs plain = (tt, (λ e. absurd (omega (arith, e)), tt))
+content_proper code.Uuids plain = (tt, (λ e. absurd (omega (arith, e)), tt))
+content_proper code.Dates plain = (tt, (λ e. absurd (omega (arith, e)), tt))
+content_proper code.Decimals plain = (tt, (λ e. absurd (omega (arith, e)), tt))
+content_proper code.Timestamps plain = (tt, (λ e. absurd (omega (arith, e)), tt))
+content_proper code.Times plain = (tt, (λ e. absurd (omega (arith, e)), tt))
+content_proper code.Map plain = (tt, (tt, tt))
+content_proper code.Objects plain = (tt, (tt, tt))
+content_proper code.Enums plain = (tt, (tt, tt))
+content_proper code.Collection plain = (tt, tt)
+content_proper code.Wrapped plain = (tt, tt)
+content_proper code.Enum plain = (tt, tt)
+content_proper code.BinaryEnum plain = (tt, tt)
+content_proper code.Bytes plain = (tt, tt)
+content_proper code.Shorts plain = (tt, tt)
+content_proper code.Ints plain = (tt, tt)
+content_proper code.Longs plain = (tt, tt)
+content_proper code.Floats plain = (tt, tt)
+content_proper code.Doubles plain = (tt, tt)
+content_proper code.Chars plain = (tt, tt)
+content_proper code.Bools plain = (tt, tt)
+content_proper _ plain = tt

@@ -51,6 +51,7 @@ built code.Time x = ap parts (value.outs-Time x)
 built code.Times x = ap parts (value.outs-Times x.1)
 built code.BinaryEnum x = ap parts (value.outs-BinaryEnum x.0 x.1)
 built code.Null x = ap parts value.outs-Null
+built code.Object x = ap parts (value.outs-Object x)
 
 rolled : (x : Value-F Value) → value_with (parts x).0 (parts x).1 ≡ roll-Value x
 rolled (Value-F.Byte x) = sym (value.rolls-Byte x)
@@ -89,6 +90,7 @@ rolled (Value-F.Time x) = sym (value.rolls-Time x)
 rolled (Value-F.Times xs) = sym (value.rolls-Times xs)
 rolled (Value-F.BinaryEnum x y) = sym (value.rolls-BinaryEnum x y)
 rolled Value-F.Null = sym value.rolls-Null
+rolled (Value-F.Object x) = sym (value.rolls-Object x)
 
 pub rebuilt : (v : Value) → value_with (parts (out-Value v)).0 (parts (out-Value v)).1 ≡ v
 rebuilt v = rolled (out-Value v) ∙ roll-out-Value v
@@ -143,6 +145,7 @@ code_again code.Time = refl
 code_again code.Times = refl
 code_again code.BinaryEnum = refl
 code_again code.Null = refl
+code_again code.Object = refl
 
 pub no_code : (b : ℕ) (c : Code) → code_at b ≡ None → b ≢ byte_of c
 no_code b c e same = let both = sym e ∙ ap code_at same ∙ code_again c in cc

@@ -18,7 +18,7 @@ use Rattle.ig_value.proofs.AgreesLemmas.{Agrees}
 use Rattle.ig_value.proofs.ItemLemmas.{IsItem, item_agrees}
 
 -- a width whose numbers are its bytes
-record IsWide (w : Width) : Type 0 where
+pub record IsWide (w : Width) : Type 0 where
   pub len : (n : ℕ) → length (to_le_bytes w n) ≡ byte_len w
   pub suffix : (s : List ℕ) → length s ≡ byte_len w → AreBytes s → to_le_bytes w (from_le_bytes w s) ≡ s
   pub again : (n : ℕ) → n < 2 ^ bits w → from_le_bytes w (to_le_bytes w n) ≡ n
@@ -29,7 +29,7 @@ one_byte [] len bytes = absurd (omega (arith, len))
 one_byte (x ∷ []) len bytes = let lt : x < 256 = bytes 0 in ap (λ (n : ℕ). n ∷ []) (mod-eq_of_lt lt)
 one_byte (x ∷ y ∷ s) len bytes = absurd (omega (arith, len))
 
-wide8 : IsWide w8
+pub wide8 : IsWide w8
 wide8 = record {
   len = λ n. refl;
   suffix = λ s len bytes. one_byte s len bytes;
@@ -37,7 +37,7 @@ wide8 = record {
   below = λ s bytes. omega (arith, bytes 0);
 }
 
-wide16 : IsWide w16
+pub wide16 : IsWide w16
 wide16 = record {
   len = λ n. refl;
   suffix = λ s len bytes. le_bytes_2 s _ len bytes refl;
@@ -45,7 +45,7 @@ wide16 = record {
   below = λ s bytes. omega (arith, bytes 0, bytes 1);
 }
 
-wide32 : IsWide w32
+pub wide32 : IsWide w32
 wide32 = record {
   len = λ n. refl;
   suffix = λ s len bytes. le_bytes_4 s _ len bytes refl;
@@ -75,7 +75,7 @@ pub record IsNumber {A : Type 0} (n : ℕ) (of : List ℕ → A) (bytes : A → 
   pub right : (s : List ℕ) → length s ≡ n → AreBytes s → Ranges (of s) × (s ≡ bytes (of s))
   pub suffix : (x : A) → Ranges x → of (bytes x) ≡ x
 
-signed_number : (w : Width) → IsWide w → IsNumber (byte_len w) (λ s. cast_signed w (from_le_bytes w s)) (LE w) (FitsSigned w)
+pub signed_number : (w : Width) → IsWide w → IsNumber (byte_len w) (λ s. cast_signed w (from_le_bytes w s)) (LE w) (FitsSigned w)
 unfolding LE
 signed_number w wide = record {
   len = λ z. wide.len (cast_unsigned w z);
@@ -85,7 +85,11 @@ signed_number w wide = record {
   suffix = λ z fits. ap (cast_signed w) (wide.again (cast_unsigned w z) (Fits-lt-pow (Fits-of_z fits))) ∙ to_z-of_z fits;
 }
 
-unsigned_number : (w : Width) → IsWide w → IsNumber (byte_len w) (from_le_bytes w) (λ n. LE w (pos n)) (λ n. n < 2 ^ bits w)
+-- a signed number that is read is in range
+pub signed_fits : (w : Width) → IsWide w → (s : List ℕ) → AreBytes s → FitsSigned w (cast_signed w (from_le_bytes w s))
+signed_fits w wide s bytes = sfits_to_z (Fits-of_lt (wide.below s bytes))
+
+pub unsigned_number : (w : Width) → IsWide w → IsNumber (byte_len w) (from_le_bytes w) (λ n. LE w (pos n)) (λ n. n < 2 ^ bits w)
 unfolding LE
 unsigned_number w wide = record {
   len = λ n. wide.len n;

@@ -1,5 +1,5 @@
 -- The canonical form of a value: the one encoding that is written.
-use Rattle.std.specs.Prelude.{ℕ, pos, List, [], ◌∷◌, ◌++◌, length, Option, None, Some, ◌<◌, ◌^◌}
+use Rattle.std.specs.Prelude.{ℕ, pos, List, [], ◌∷◌, ◌++◌, length, map, Option, None, Some, ◌<◌, ◌^◌}
 use Rattle.std.specs.Int.{w32}
 use Rattle.std.specs.List.{flat_map}
 use Rattle.ig_base.specs.Numbers.{LE}
@@ -10,7 +10,8 @@ use Rattle.ig_value.specs.declared.value.Value.{Value}
 use Rattle.ig_base.specs.declared.NodeId.{NodeId}
 use Rattle.ig_value.specs.declared.value.Value.TheOpen.{Value-F}
 use Rattle.ig_value.specs.declared.value.Value.TheFolds.{fold-Value}
-use Rattle.ig_value.specs.Part.{Part, nothing, scalar, i32, i64, u64, text, octets, uuid, stamp, decimal, value, both, counted, optional, Content}
+use Rattle.ig_value.specs.Part.{Part, nothing, scalar, i32, i64, u64, text, octets, uuid, stamp, decimal, value, object, both, counted, optional, Content}
+use Rattle.ig_value.specs.Objects.{object_bytes}
 use Rattle.ig_value.specs.Table.{byte_of, content, parts}
 use Rattle.ig_value.specs.Spells.{scalar_bytes}
 
@@ -42,6 +43,7 @@ part_bytes inner uuid x = uuid_bytes x
 part_bytes inner stamp x = stamp_bytes x
 part_bytes inner decimal x = decimal_bytes x
 part_bytes inner value x = inner x
+part_bytes inner object x = object_bytes x.bits x.type_id x.shape (map inner x.fields)
 part_bytes inner (both p q) x = part_bytes inner p x.0 ++ part_bytes inner q x.1
 part_bytes inner (counted p q) x = LE w32 (pos (length x.1)) ++ (part_bytes inner p x.0 ++ flat_map (part_bytes inner q) x.1)
 part_bytes inner (optional c p) x = optional_bytes (byte_of c) (part_bytes inner p) x

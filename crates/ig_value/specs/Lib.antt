@@ -1,8 +1,10 @@
 pub mod Part
 pub mod Table
+pub mod Objects
 pub mod Spells
 pub mod Stops
 pub mod Canon
 pub mod Limits
+pub mod Build
 pub mod Reading
 pub mod Laws

@@ -1,6 +1,6 @@
 -- The limits of values: at most 32 levels, at most 2^31 - 1 bytes or items in each text and list,
 -- numbers in the range of their types, texts of UTF-8.
-use Rattle.std.specs.Prelude.{ℕ, zero, suc, ◌+◌, ◌<◌, ◌^◌, max, List, [], ◌∷◌, length, sum_by, Option, None, Some}
+use Rattle.std.specs.Prelude.{◌≡◌, ◌≢◌, pos, ℕ, zero, suc, ◌+◌, ◌<◌, ◌^◌, max, List, [], ◌∷◌, length, sum_by, Option, None, Some}
 use Rattle.std.specs.List.{AllByRecursion, flat_map}
 use Rattle.std.specs.Str.{IsUtf8}
 use Rattle.ig_base.specs.Numbers.{AreBytes}
@@ -10,7 +10,11 @@ use Rattle.ig_value.specs.declared.value.Stamp.{Stamp}
 use Rattle.ig_value.specs.declared.value.Value.{Value, out-Value}
 use Rattle.ig_value.specs.declared.value.Value.TheOpen.{Value-F}
 use Rattle.ig_value.specs.declared.value.Value.TheFolds.{fold-Value}
-use Rattle.ig_value.specs.Part.{i32, i64, u64, Part, nothing, scalar, text, octets, uuid, stamp, decimal, value, both, counted, optional, Content}
+use Rattle.ig_value.specs.declared.object.Record.{Record}
+use Rattle.ig_value.specs.declared.object.Shape.{Shape}
+use Rattle.ig_value.specs.declared.object.Shape.TheVariants.{Named, Compact}
+use Rattle.ig_value.specs.Objects.{kept_flags}
+use Rattle.ig_value.specs.Part.{i32, i64, u16, u64, Part, nothing, scalar, text, octets, uuid, stamp, decimal, value, object, both, counted, optional, Content}
 use Rattle.ig_value.specs.Table.{content, parts}
 use Rattle.ig_value.specs.Spells.{IsInRange}
 
@@ -35,6 +39,26 @@ abbrev pub IfThere : {A : Type 0} → (A → Type 0) → Option A → Type 0
 IfThere P None = Unit {0}
 IfThere P (Some x) = P x
 
+-- the shape keeps to the limits and is that of n fields
+abbrev pub IsLimitedShape : ℕ → Shape → Type 0
+IsLimitedShape n (Named ids) = AllByRecursion (IsInRange i32) ids × (length ids ≡ n)
+IsLimitedShape n (Compact schema) = IsInRange i32 schema × (0 < n)
+
+-- the object keeps to the limits but for its fields: flag 1 and flags from 64 up alone, a type, and
+-- a shape that is that of its fields
+pub record IsLimitedHead {X : Type 0} (o : Record X) : Type 0 where
+  pub bits : IsInRange u16 o.bits
+  pub kept : kept_flags o.bits ≡ o.bits
+  pub type : IsInRange i32 o.type_id
+  pub registered : o.type_id ≢ pos 0
+  pub shape : IsLimitedShape (length o.fields) o.shape
+
+-- the object keeps to the limits, where `inner` says so of a field
+pub record IsLimitedObject {X : Type 0} (inner : X → Type 0) (o : Record X) : Type 0 where
+  pub head : IsLimitedHead o
+  pub few : length o.fields < 2 ^ 31
+  pub fields : AllByRecursion inner o.fields
+
 -- the part keeps to the limits, where `inner` says so of a value inside
 abbrev pub FitsPart : {X : Type 0} → (X → Type 0) → (p : Part) → Content X p → Type 0
 FitsPart inner nothing x = Unit {0}
@@ -45,6 +69,7 @@ FitsPart inner uuid x = IsLimitedUuid x
 FitsPart inner stamp x = IsLimitedStamp x
 FitsPart inner decimal x = IsLimitedDecimal x
 FitsPart inner value x = inner x
+FitsPart inner object x = IsLimitedObject inner x
 FitsPart inner (both p q) x = FitsPart inner p x.0 × FitsPart inner q x.1
 FitsPart inner (counted p q) x = (length x.1 < 2 ^ 31) × (FitsPart inner p x.0 × AllByRecursion (FitsPart inner q) x.1)
 FitsPart inner (optional c p) x = IfThere (FitsPart inner p) x
@@ -66,6 +91,7 @@ children (Value-F.Objects type xs) = xs
 children (Value-F.Collection kind xs) = xs
 children (Value-F.Map kind ps) = flat_map (λ p. p.0 ∷ p.1 ∷ []) ps
 children (Value-F.Enums type xs) = xs
+children (Value-F.Object o) = o.fields
 children _ = []
 
 -- the greatest of the numbers, or 0 without any
@@ -83,6 +109,11 @@ pair_depth p = max (Depth p.0) (Depth p.1)
 
 -- ---- nodes
 
+-- the numbers of a shape
+abbrev pub shape_nodes : Shape → ℕ
+shape_nodes (Named ids) = length ids
+shape_nodes (Compact schema) = 1
+
 -- The number of nodes of a part: those of each value inside, and one for each number, each byte of
 -- a text and each item of a list.
 abbrev pub part_nodes : {X : Type 0} → (X → ℕ) → (p : Part) → Content X p → ℕ
@@ -94,6 +125,7 @@ part_nodes inner uuid x = 1
 part_nodes inner stamp x = 1
 part_nodes inner decimal x = length x.bytes
 part_nodes inner value x = inner x
+part_nodes inner object x = 2 + shape_nodes x.shape + sum_by inner x.fields
 part_nodes inner (both p q) x = part_nodes inner p x.0 + part_nodes inner q x.1
 part_nodes inner (counted p q) x = part_nodes inner p x.0 + sum_by (part_nodes inner q) x.1
 part_nodes inner (optional c p) None = 1

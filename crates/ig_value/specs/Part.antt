@@ -3,6 +3,7 @@ use Rattle.std.specs.Prelude.{ℕ, ℤ, Bool, List, Option}
 use Rattle.ig_base.specs.declared.NodeId.{NodeId}
 use Rattle.ig_value.specs.declared.code.Code.{Code}
 use Rattle.ig_value.specs.declared.value.Dec.{Dec}
+use Rattle.ig_value.specs.declared.object.Record.{Record}
 use Rattle.ig_value.specs.declared.value.Stamp.{Stamp}
 
 -- a number or a truth value, by its type
@@ -21,11 +22,11 @@ ScalarValue truth = Bool
 
 -- `value` is a value inside, one level deeper; `both p q` is p and then q; `counted p q` is an
 -- Int32 count, p, and as many of q as the count says; `optional c p` is the code of null, or the
--- code c and then p
+-- code c and then p; `object` is what follows the code of an object
 pub data Part : Type 0 where
   nothing : Part
   scalar : Scalar → Part
-  text octets uuid stamp decimal value : Part
+  text octets uuid stamp decimal value object : Part
   both counted : Part → Part → Part
   optional : Code → Part → Part
 
@@ -43,6 +44,7 @@ Content X uuid = NodeId
 Content X stamp = Stamp
 Content X decimal = Dec
 Content X value = X
+Content X object = Record X
 Content X (both p q) = Content X p × Content X q
 Content X (counted p q) = Content X p × List (Content X q)
 Content X (optional c p) = Option (Content X p)

@@ -1,6 +1,6 @@
 -- Reading from left to right, as a function: a value and the bytes after it, or the number of bytes
 -- that are left where the first wrong item begins, and why it is wrong.
-use Rattle.std.specs.Prelude.{ℕ, zero, suc, pos, negsuc, ℤ, Bool, true, false, List, [], ◌∷◌, length, take, drop, slice_index, Option, None, Some, Result, Ok, Err, nat_lt, ◌==◌, if◌then◌else◌}
+use Rattle.std.specs.Prelude.{ℕ, zero, suc, ◌+◌, ◌-◌, pos, negsuc, ℤ, Bool, true, false, List, [], ◌∷◌, length, take, drop, slice_index, Option, None, Some, Result, Ok, Err, nat_lt, ◌==◌, if◌then◌else◌}
 use Rattle.std.specs.Int.{w8, w16, w32, w64, cast_signed, from_le_bytes}
 use Rattle.std.specs.Str.{is_utf8}
 use Rattle.ig_value.specs.declared.cause.Cause.{Cause}
@@ -11,9 +11,14 @@ use Rattle.ig_value.specs.declared.value.Dec.{Dec}
 use Rattle.ig_value.specs.declared.value.Stamp.{Stamp}
 use Rattle.ig_value.specs.declared.value.Value.{Value}
 use Rattle.ig_base.specs.declared.NodeId.{NodeId}
-use Rattle.ig_value.specs.Part.{Scalar, i8, i16, i32, i64, u16, u32, u64, truth, ScalarValue, Part, nothing, scalar, text, octets, uuid, stamp, decimal, value, both, counted, optional, Content}
+use Rattle.ig_value.specs.Part.{Scalar, i8, i16, i32, i64, u16, u32, u64, truth, ScalarValue, Part, nothing, scalar, text, octets, uuid, stamp, decimal, value, object, both, counted, optional, Content}
 use Rattle.ig_value.specs.Table.{byte_of, content, value_with, code_at}
 use Rattle.ig_value.specs.Stops.{scalar_len}
+use Rattle.ig_base.specs.declared.header.Header.{Header}
+use Rattle.ig_base.specs.Headers.{header_of}
+use Rattle.ig_value.specs.declared.object.Record.{Record}
+use Rattle.ig_value.specs.declared.object.Shape.TheVariants.{Named}
+use Rattle.ig_value.specs.Objects.{kept_flags, size_of, entry_len, object_offsets, object_shape, fields_of, first_offset, refusal}
 
 -- the number of bytes that are left at the first wrong item, and the cause
 abbrev pub Fault : Type 0
@@ -117,6 +122,48 @@ stamp_at s = mapped_read (λ x. record { millis = x.0; nanos = x.1 }) (both_at (
 abbrev pub decimal_at : List ℕ → Read Dec
 decimal_at s = mapped_read (λ x. record { scale = x.0; bytes = x.1 }) (both_at (scalar_at i32) (counted_at run_at) s)
 
+-- ---- objects
+
+-- a fault told by the bytes left before this end, told by its place instead; or the other way round
+abbrev pub turned : {A : Type 0} → ℕ → Result A Fault → Result A Fault
+turned end (Ok x) = Ok x
+turned end (Err f) = Err (end - f.0, f.1)
+
+-- Fields that end at this place, where `at_offset` is the place of the first offset, and `distance`
+-- that from one to the next. A fault has its place.
+abbrev pub laid_at : {X : Type 0} → (List ℕ → Read X) → ℕ → ℕ → ℕ → List ℕ → List ℕ → Result (List X) Fault
+laid_at inner distance at_offset end [] [] = Ok []
+laid_at inner distance at_offset end [] (b ∷ s) = Err (20, cause.Offset)
+laid_at inner distance at_offset end (offset ∷ offsets) s = if offset == end - length s then (do
+    x ← turned end (inner s)
+    xs ← laid_at inner distance (at_offset + distance) end offsets x.1
+    Ok (x.0 ∷ xs)) else Err (at_offset, cause.Offset)
+
+-- the object with these fields
+abbrev pub object_with : {X : Type 0} → Header → List ℕ → List X → Record X
+object_with header s xs = record { bits = kept_flags header.flags; type_id = header.type_id; shape = object_shape header s; fields = xs }
+
+abbrev pub fields_at : {X : Type 0} → (List ℕ → Read X) → Header → List ℕ → Read (Record X)
+fields_at inner header s =
+    turned (length s) (laid_at inner (entry_len header.flags) (first_offset header) (size_of header.schema_at) (object_offsets header s) (fields_of header s))
+    >>= λ xs. Ok (object_with header s xs, drop (size_of header.length) s)
+
+-- the object that is a header alone
+abbrev pub alone : {X : Type 0} → Header → Record X
+alone header = record { bits = kept_flags header.flags; type_id = header.type_id; shape = Named []; fields = [] }
+
+abbrev pub checked_at : {X : Type 0} → (List ℕ → Read X) → Header → List ℕ → Option Fault → Read (Record X)
+checked_at inner header s (Some fault) = turned (length s) (Err fault)
+checked_at inner header s None = if nat_lt 24 (size_of header.length) then fields_at inner header s else Ok (alone header, drop 24 s)
+
+abbrev pub headed_at : {X : Type 0} → (List ℕ → Read X) → List ℕ → Option Header → Read (Record X)
+headed_at inner s None = Err (length s, cause.Short)
+headed_at inner s (Some header) = checked_at inner header s (refusal header s)
+
+-- an object, from its code on
+unfoldable pub object_at : {X : Type 0} → (List ℕ → Read X) → List ℕ → Read (Record X)
+object_at inner s = headed_at inner s (header_of s)
+
 -- a part, where `inner` reads a value inside
 abbrev pub part_at : {X : Type 0} → (List ℕ → Read X) → (p : Part) → List ℕ → Read (Content X p)
 part_at inner nothing s = nothing_at s
@@ -127,6 +174,7 @@ part_at inner uuid s = uuid_at s
 part_at inner stamp s = stamp_at s
 part_at inner decimal s = decimal_at s
 part_at inner value s = inner s
+part_at inner object s = object_at inner (byte_of code.Object ∷ s)
 part_at inner (both p q) s = both_at (part_at inner p) (part_at inner q) s
 part_at inner (counted p q) s = counted_at (λ n. both_at (part_at inner p) (many_at (part_at inner q) n)) s
 part_at inner (optional c p) s = optional_at (byte_of c) (part_at inner p) s

@@ -6,7 +6,8 @@ use Rattle.ig_base.specs.Numbers.{LE, AreBytes}
 use Rattle.ig_value.specs.declared.code.Code.{Code}
 use Rattle.ig_value.specs.declared.code.Code.TheVariants as code
 use Rattle.ig_value.specs.declared.value.Value.{Value, out-Value}
-use Rattle.ig_value.specs.Part.{Scalar, i8, i16, i32, i64, u16, u32, u64, truth, ScalarValue, Part, nothing, scalar, text, octets, uuid, stamp, decimal, value, both, counted, optional, Content}
+use Rattle.ig_value.specs.Part.{Scalar, i8, i16, i32, i64, u16, u32, u64, truth, ScalarValue, Part, nothing, scalar, text, octets, uuid, stamp, decimal, value, object, both, counted, optional, Content}
+use Rattle.ig_value.specs.Objects.{IsObject}
 use Rattle.ig_value.specs.Table.{byte_of, content, parts}
 
 -- ---- one part
@@ -95,6 +96,7 @@ SpellsPart inner uuid s x = IsBoth (IsScalar u64) (IsScalar u64) s (x.most, x.le
 SpellsPart inner stamp s x = IsBoth (IsScalar i64) (IsScalar i32) s (x.millis, x.nanos)
 SpellsPart inner decimal s x = IsBoth (IsScalar i32) (IsCounted IsRun) s (x.scale, x.bytes)
 SpellsPart inner value s x = inner s x
+SpellsPart inner object s x = IsObject inner (byte_of code.Object ∷ s) x
 SpellsPart inner (both p q) s x = IsBoth (SpellsPart inner p) (SpellsPart inner q) s x
 SpellsPart inner (counted p q) s x = IsCounted (λ n. IsBoth (SpellsPart inner p) (IsMany (SpellsPart inner q) n)) s x
 SpellsPart inner (optional c p) s x = IsOptional c (SpellsPart inner p) s x

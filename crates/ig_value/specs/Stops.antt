@@ -8,7 +8,8 @@ use Rattle.ig_value.specs.declared.cause.Cause.{Cause}
 use Rattle.ig_value.specs.declared.cause.Cause.TheVariants as cause
 use Rattle.ig_value.specs.declared.code.Code.{Code}
 use Rattle.ig_value.specs.declared.code.Code.TheVariants as code
-use Rattle.ig_value.specs.Part.{Scalar, i8, i16, i32, i64, u16, u32, u64, truth, Part, nothing, scalar, text, octets, uuid, stamp, decimal, value, both, counted, optional}
+use Rattle.ig_value.specs.Part.{Scalar, i8, i16, i32, i64, u16, u32, u64, truth, Part, nothing, scalar, text, octets, uuid, stamp, decimal, value, object, both, counted, optional}
+use Rattle.ig_value.specs.Objects.{StopsObject}
 use Rattle.ig_value.specs.Table.{byte_of, content}
 use Rattle.ig_value.specs.Spells.{IsScalar, SpellsPart, SpellsTo}
 
@@ -125,7 +126,7 @@ StopsOptional code Wrong s at why = IsTruncated 1 s at why ⊎ IsOtherCode code 
 -- ---- values
 
 -- the part stops, where `inner` says which bytes encode a value inside, and `wrong` where they stop
--- being one
+-- being one; where an object stops is said of its code too, by `StopsObject`
 abbrev pub StopsPart : {X : Type 0} → (List ℕ → X → Type 0) → (List ℕ → ℕ → Cause → Type 0) → Part → List ℕ → ℕ → Cause → Type 0
 StopsPart inner wrong nothing s at why = ⊥
 StopsPart inner wrong (scalar k) s at why = StopsScalar k s at why
@@ -135,6 +136,7 @@ StopsPart inner wrong uuid s at why = StopsBoth (IsScalar u64) (StopsScalar u64)
 StopsPart inner wrong stamp s at why = StopsBoth (IsScalar i64) (StopsScalar i64) (StopsScalar i32) s at why
 StopsPart inner wrong decimal s at why = StopsBoth (IsScalar i32) (StopsScalar i32) (StopsCounted StopsRun) s at why
 StopsPart inner wrong value s at why = wrong s at why
+StopsPart inner wrong object s at why = ⊥
 StopsPart inner wrong (both p q) s at why = StopsBoth (SpellsPart inner p) (StopsPart inner wrong p) (StopsPart inner wrong q) s at why
 StopsPart inner wrong (counted p q) s at why =
     StopsCounted (λ n. StopsBoth (SpellsPart inner p) (StopsPart inner wrong p) (StopsMany (SpellsPart inner q) (StopsPart inner wrong q) n)) s at why
@@ -167,6 +169,7 @@ abbrev pub StopsTo : ℕ → List ℕ → ℕ → Cause → Type 0
 StopsTo zero s at why = IsTruncated 1 s at why ⊎ IsTooDeep s at why
 StopsTo (suc levels) s at why =
     IsTruncated 1 s at why ⊎ IsUnknown s at why ⊎ StopsInside (λ code. StopsPart (SpellsTo levels) (StopsTo levels) (content code)) s at why
+    ⊎ StopsObject (SpellsTo levels) (StopsTo levels) s at why
 
 -- the bytes stop being a value
 unfoldable pub Stops : List ℕ → ℕ → Cause → Type 0

@@ -6,7 +6,7 @@ use Rattle.ig_value.specs.declared.code.Code.TheVariants as code
 use Rattle.ig_value.specs.declared.value.Value.{Value}
 use Rattle.ig_value.specs.declared.value.Value.TheVariants as value
 use Rattle.ig_value.specs.declared.value.Value.TheOpen.{Value-F}
-use Rattle.ig_value.specs.Part.{i8, i16, i32, i64, u16, u32, u64, truth, Part, nothing, scalar, text, octets, uuid, stamp, decimal, value, both, counted, optional, array, Content}
+use Rattle.ig_value.specs.Part.{i8, i16, i32, i64, u16, u32, u64, truth, Part, nothing, scalar, text, octets, uuid, stamp, decimal, value, object, both, counted, optional, array, Content}
 
 -- the byte of a code
 abbrev pub byte_of : Code → ℕ
@@ -46,6 +46,7 @@ byte_of code.Time = 36
 byte_of code.Times = 37
 byte_of code.BinaryEnum = 38
 byte_of code.Null = 101
+byte_of code.Object = 103
 
 -- the content after a code
 abbrev pub content : Code → Part
@@ -85,6 +86,7 @@ content code.Time = scalar i64
 content code.Times = array (optional code.Time (scalar i64))
 content code.BinaryEnum = both (scalar i32) (scalar i32)
 content code.Null = nothing
+content code.Object = object
 
 -- a value's code, and the content that it holds
 abbrev pub parts : {X : Type 0} → Value-F X → (c : Code) × Content X (content c)
@@ -124,6 +126,7 @@ parts (Value-F.Time n) = (code.Time, n)
 parts (Value-F.Times xs) = (code.Times, (tt, xs))
 parts (Value-F.BinaryEnum type ordinal) = (code.BinaryEnum, (type, ordinal))
 parts Value-F.Null = (code.Null, tt)
+parts (Value-F.Object o) = (code.Object, o)
 
 -- the value with this code and this content
 abbrev pub value_with : (c : Code) → Content Value (content c) → Value
@@ -163,10 +166,11 @@ value_with code.Time n = value.Time n
 value_with code.Times (tt, xs) = value.Times xs
 value_with code.BinaryEnum (type, ordinal) = value.BinaryEnum type ordinal
 value_with code.Null x = value.Null
+value_with code.Object o = value.Object o
 
 -- all codes
 abbrev pub codes : List Code
-codes = code.Byte ∷ code.Short ∷ code.Int ∷ code.Long ∷ code.Float ∷ code.Double ∷ code.Char ∷ code.Bool ∷ code.Str ∷ code.Uuid ∷ code.Date ∷ code.Bytes ∷ code.Shorts ∷ code.Ints ∷ code.Longs ∷ code.Floats ∷ code.Doubles ∷ code.Chars ∷ code.Bools ∷ code.Strs ∷ code.Uuids ∷ code.Dates ∷ code.Objects ∷ code.Collection ∷ code.Map ∷ code.Wrapped ∷ code.Enum ∷ code.Enums ∷ code.Decimal ∷ code.Decimals ∷ code.Timestamp ∷ code.Timestamps ∷ code.Time ∷ code.Times ∷ code.BinaryEnum ∷ code.Null ∷ []
+codes = code.Byte ∷ code.Short ∷ code.Int ∷ code.Long ∷ code.Float ∷ code.Double ∷ code.Char ∷ code.Bool ∷ code.Str ∷ code.Uuid ∷ code.Date ∷ code.Bytes ∷ code.Shorts ∷ code.Ints ∷ code.Longs ∷ code.Floats ∷ code.Doubles ∷ code.Chars ∷ code.Bools ∷ code.Strs ∷ code.Uuids ∷ code.Dates ∷ code.Objects ∷ code.Collection ∷ code.Map ∷ code.Wrapped ∷ code.Enum ∷ code.Enums ∷ code.Decimal ∷ code.Decimals ∷ code.Timestamp ∷ code.Timestamps ∷ code.Time ∷ code.Times ∷ code.BinaryEnum ∷ code.Null ∷ code.Object ∷ []
 
 -- the code of a byte, if any
 abbrev pub code_at : ℕ → Option Code

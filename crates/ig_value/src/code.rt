@@ -42,6 +42,7 @@ pub enum Code {
     Times = 37,
     BinaryEnum = 38,
     Null = 101,
+    Object = 103,
 }
 
 impl Code {
@@ -86,6 +87,7 @@ impl Code {
             37 => Code::Times,
             38 => Code::BinaryEnum,
             101 => Code::Null,
+            103 => Code::Object,
             _ => return None,
         })
     }

@@ -1,10 +1,12 @@
 //! Copies of trees.
 
 ghost use Rattle.std.specs.Prelude.{◌≡◌, IfOk};
+ghost use Rattle.ig_value.specs.declared.value.Value.TheVariants as value;
 
 use crate::leaves::{Leaf, copy_leaves, copy_plain};
-use crate::value::Value;
-use ig_base::{Items, NoMemory};
+use crate::object::Record;
+use crate::value::{Object, Value};
+use ig_base::{Boxed, Items, NoMemory};
 use std::alloc::Global;
 
 impl Value {
@@ -73,8 +75,28 @@ impl Value {
                 ordinal: *ordinal,
             },
             Value::Null => Value::Null,
+            Value::Object(object) => {
+                let fields = copy_values(alloc, object.get().fields.as_slice())?;
+                object_like(alloc, object.get(), fields)?
+            }
         })
     }
+}
+
+/// An object that is equal but for its fields, which are given and equal too.
+fn object_like(alloc: Global, object: &Object, fields: Items<Value>) -> Result<Value, NoMemory>
+    requires { fields ≡ object.now.fields }
+    ensures { IfOk result (λ made. made ≡ value.Object object.now) }
+{
+    let (bits, type_id) = (object.bits, object.type_id);
+    let shape = object.shape.copy(alloc)?;
+    let copied = Record {
+        bits,
+        type_id,
+        shape,
+        fields,
+    };
+    Ok(Value::Object(Boxed::new(alloc, copied)?))
 }
 
 /// A list of equal values.

@@ -19,6 +19,7 @@ impl Value {
             Value::Collection { items, .. } => 1 + greatest_depth(items.as_slice()),
             Value::Map { pairs, .. } => 1 + greatest_pair_depth(pairs.as_slice()),
             Value::Enums { items, .. } => 1 + greatest_depth(items.as_slice()),
+            Value::Object(object) => 1 + greatest_depth(object.get().fields.as_slice()),
             _ => 1,
         }
     }

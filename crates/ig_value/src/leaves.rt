@@ -2,6 +2,7 @@
 
 ghost use Rattle.std.specs.Prelude.{◌≡◌, ◌↔◌, IsTrue, IfOk};
 
+use crate::object::Shape;
 use crate::value::{Dec, Stamp};
 use ig_base::{Items, NoMemory, NodeId, Octets, Text};
 use std::alloc::Global;
@@ -98,6 +99,16 @@ impl Same for Dec {
     }
 }
 
+impl Same for Shape {
+    fn same(&self, other: &Shape) -> bool {
+        match (self, other) {
+            (Shape::Named(a), Shape::Named(b)) => same_items(a.as_slice(), b.as_slice()),
+            (Shape::Compact(a), Shape::Compact(b)) => a == b,
+            _ => false,
+        }
+    }
+}
+
 impl<T: Same> Same for Option<T> {
     fn same(&self, other: &Option<T>) -> bool {
         match (self, other) {
@@ -125,6 +136,15 @@ impl Leaf for Dec {
         Ok(Dec {
             scale: self.scale,
             bytes: self.bytes.copy(alloc)?,
+        })
+    }
+}
+
+impl Leaf for Shape {
+    fn copy(&self, alloc: Global) -> Result<Shape, NoMemory> {
+        Ok(match self {
+            Shape::Named(ids) => Shape::Named(copy_plain(alloc, ids.as_slice())?),
+            Shape::Compact(schema) => Shape::Compact(*schema),
         })
     }
 }

@@ -7,6 +7,7 @@
 //! grammar are contracts of the functions in `laws.rt`.
 #![tactic(auto)]
 
+mod build;
 mod cause;
 mod code;
 mod copy;
@@ -15,13 +16,16 @@ mod laws;
 mod leaves;
 mod limited;
 mod limits;
+mod object;
 mod same;
 mod value;
 
+pub use build::BuildFault;
 pub use cause::Cause;
 pub use code::Code;
 pub use laws::{bounded_trees, one_form, one_reader, one_reading};
-pub use value::{DEEPEST, Dec, Stamp, Value};
+pub use object::{Record, Shape};
+pub use value::{DEEPEST, Dec, Object, Stamp, Value};
 
 #[cfg(test)]
 mod tests;

@@ -5,8 +5,9 @@ ghost use Rattle.std.specs.Str.{IsUtf8};
 ghost use Rattle.std.specs.List.{AllByRecursion};
 ghost use Rattle.ig_value.specs.Part as scalar;
 ghost use Rattle.ig_value.specs.Spells.{IsInRange};
-ghost use Rattle.ig_value.specs.Limits.{AreCountable, IfThere, IsLimitedText, IsLimitedUuid, IsLimitedStamp, IsLimitedDecimal};
+ghost use Rattle.ig_value.specs.Limits.{AreCountable, IfThere, IsLimitedShape, IsLimitedHead, IsLimitedText, IsLimitedUuid, IsLimitedStamp, IsLimitedDecimal};
 
+use crate::object::{Record, Shape};
 use crate::value::{Dec, Stamp};
 use ig_base::{NodeId, Octets, Text};
 
@@ -152,6 +153,56 @@ fn are_countable(bytes: &[u8]) -> bool
     ensures { IsTrue result ↔ AreCountable bytes.now }
 {
     bytes.len() <= LONGEST
+}
+
+/// Whether an Int32 counts an object's fields, and all of the object but these keeps to the limits.
+pub(crate) fn is_limited_head<V>(object: &Record<V>) -> bool
+    ensures { IsTrue result ↔ ((length object.now.fields < 2 ^ 31) × IsLimitedHead object.now) }
+{
+    let (bits, type_id) = (object.bits, object.type_id);
+    let fields = object.fields.as_slice().len();
+    if bits / 64 * 64 + bits % 2 != bits {
+        return false;
+    }
+    if type_id == 0 {
+        return false;
+    }
+    if fields > LONGEST {
+        return false;
+    }
+    is_limited_shape(&object.shape, fields)
+}
+
+/// Whether a shape keeps to the limits and is that of this many fields.
+fn is_limited_shape(shape: &Shape, fields: usize) -> bool
+    requires { fields < 2 ^ 31 }
+    ensures { IsTrue result ↔ IsLimitedShape fields shape.now }
+{
+    match shape {
+        Shape::Named(ids) => are_ids(ids.as_slice(), fields),
+        Shape::Compact(schema) => is_schema(schema, fields),
+    }
+}
+
+/// Whether these are identifiers of this many fields.
+fn are_ids(ids: &[i32], fields: usize) -> bool
+    requires { fields < 2 ^ 31 }
+    ensures { IsTrue result ↔ (AllByRecursion (IsInRange scalar.i32) ids.now × (length ids.now ≡ fields)) }
+{
+    if ids.len() != fields {
+        return false;
+    }
+    are_limited(ids)
+}
+
+/// Whether a schema may have this many fields.
+fn is_schema(schema: &i32, fields: usize) -> bool
+    ensures { IsTrue result ↔ (IsInRange scalar.i32 schema.now × (0 < fields)) }
+{
+    if fields == 0 {
+        return false;
+    }
+    schema.is_limited()
 }
 
 /// Whether both parts keep to the limits.

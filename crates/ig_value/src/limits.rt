@@ -6,7 +6,7 @@ ghost use Rattle.ig_value.specs.Part as scalar;
 ghost use Rattle.ig_value.specs.Spells.{IsInRange};
 ghost use Rattle.ig_value.specs.Limits.{Depth, Fits, FitsTo};
 
-use crate::limited::{LONGEST, Limited, are_limited, both_limited};
+use crate::limited::{LONGEST, Limited, are_limited, both_limited, is_limited_head};
 use crate::value::{DEEPEST, Value};
 
 impl Value {
@@ -66,6 +66,11 @@ fn fits_to(value: &Value, levels: u32) -> bool
         Value::Times(xs) => are_limited(xs.as_slice()),
         Value::BinaryEnum { type_id, ordinal } => both_limited(type_id, ordinal),
         Value::Null => true,
+        Value::Object(object) => object_fits(
+            is_limited_head(object.get()),
+            object.get().fields.as_slice(),
+            levels - 1,
+        ),
     }
 }
 
@@ -94,6 +99,15 @@ fn map_fits(kind: &i8, pairs: &[(Value, Value)], levels: u32) -> bool
         × AllByRecursion (λ p. FitsTo levels p.0 × FitsTo levels p.1) pairs.now) }
 {
     kind.is_limited() && pairs_fit(pairs, levels)
+}
+
+/// Whether an object does, given whether its head does.
+#[cycle(limits)]
+fn object_fits(head: bool, fields: &[Value], levels: u32) -> bool
+    ensures { IsTrue result ↔ (IsTrue head × (length fields.now < 2 ^ 31)
+        × AllByRecursion (FitsTo levels) fields.now) }
+{
+    head && values_fit(fields, levels)
 }
 
 /// Whether an Int32 counts the values and each is within the limits.

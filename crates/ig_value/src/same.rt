@@ -1,9 +1,9 @@
 //! Equality of trees.
 
-ghost use Rattle.std.specs.Prelude.{◌≡◌, ◌↔◌, IsTrue};
+ghost use Rattle.std.specs.Prelude.{◌≡◌, ◌↔◌, IsTrue, IsFalse};
 
 use crate::leaves::{Same, same_items};
-use crate::value::Value;
+use crate::value::{Object, Value};
 
 impl Value {
     /// Whether both trees are equal, in their kinds, their shape and all that they hold. The
@@ -98,9 +98,19 @@ impl Value {
                 },
             ) => s == t && a == b,
             (Value::Null, Value::Null) => true,
+            (Value::Object(a), Value::Object(b)) => same_heads(a.get(), b.get())
+                && same_values(a.get().fields.as_slice(), b.get().fields.as_slice()),
             _ => false,
         }
     }
+}
+
+/// Whether two objects are equal but for their fields.
+fn same_heads(a: &Object, b: &Object) -> bool
+    ensures equal { IsTrue result → (a.now.fields ≡ b.now.fields) → a.now ≡ b.now }
+    ensures other { IsFalse result → a.now ≡ b.now → ⊥ }
+{
+    a.bits == b.bits && a.type_id == b.type_id && a.shape.same(&b.shape)
 }
 
 /// Whether both lists have equal values in the same order.

@@ -1,6 +1,7 @@
 //! The value tree.
 
-use ig_base::{Items, NodeId, Octets, Text};
+use crate::object::Record;
+use ig_base::{Boxed, Items, NodeId, Octets, Text};
 
 /// A decimal number: `bytes` is the unscaled value as it was read, highest byte first.
 #[derive(Debug, Drop)]
@@ -23,9 +24,9 @@ pub const DEEPEST: u32 = 32;
 /// A value, as a tree. Each variant is a row of the format, with its code. Numbers are kept as they
 /// were read, also those without a meaning, as a kind of collection that nobody knows.
 ///
-/// A value keeps to the limits where it is at most [`DEEPEST`] levels deep and each text and list
-/// in it has at most 2^31 - 1 bytes or items: `Fits` in `specs/Limits.antt`. Whatever is decoded
-/// does. A tree that a caller builds may break them: [`Value::keeps_to_limits`] tells, and it is
+/// A value keeps to the limits where it is at most [`DEEPEST`] levels deep, each text and list in
+/// it has at most 2^31 - 1 bytes or items, and each object is as [`Record`] says: `Fits` in
+/// `specs/Limits.antt`. Whatever is decoded does. A tree that a caller builds may break them: [`Value::keeps_to_limits`] tells, and it is
 /// safe to call on any tree.
 #[derive(Debug, Drop)]
 pub enum Value {
@@ -123,4 +124,9 @@ pub enum Value {
     },
     /// Code 101: no value.
     Null,
+    /// Code 103: a complex object.
+    Object(Boxed<Record<Value>>),
 }
+
+/// A complex object.
+pub type Object = Record<Value>;

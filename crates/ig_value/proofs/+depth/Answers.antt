@@ -1,7 +1,7 @@
 -- The depth of each variant, and the steps of the two loops.
-use Rattle.std.proofs.Common.{◌≡◌, ◌≤◌, max, map, ap, sym, arith, add-one}
+use Rattle.std.proofs.Common.{◌≡◌, ◌≤◌, max, map, ap, sym, ◌∙◌, arith, add-one}
 use Rattle.ig_value.specs.Limits.{Depth, greatest, pair_depth}
-use Rattle.ig_value.proofs.DepthLemmas.{greatest_item, greatest_more, Depth_objects, Depth_collection, Depth_map, Depth_enums, Depth_default}
+use Rattle.ig_value.proofs.DepthLemmas.{greatest_item, greatest_more, Depth_objects, Depth_collection, Depth_map, Depth_enums, Depth_object, Depth_default}
 use Rattle.ig_value.proofs.+depth.Goals as goal
 use Rattle.ig_value.proofs.+depth.Goals.{depth::greatest_depth-then-greatest-depth, depth::greatest_depth-else-greatest-depth, depth::greatest_pair_depth-then-greatest-first, depth::greatest_pair_depth-else-greatest-first, depth::greatest_pair_depth-then-greatest-second, depth::greatest_pair_depth-else-greatest-second}
 
@@ -36,7 +36,7 @@ value::Value::depth-returns-in-Objects t c =
     omega (arith, c.greatest_depth.ensures, ap (λ l. greatest (map Depth l)) c.as_slice.ensures)
 
 pub value::Value::depth-returns-in_default : goal.value::Value::depth-returns-in_default
-value::Value::depth-returns-in_default t c = sym (Depth_default c.args.self.now c.in_default.not-Objects c.in_default.not-Collection c.in_default.not-Map c.in_default.not-Enums)
+value::Value::depth-returns-in_default t c = sym (Depth_default c.args.self.now c.in_default.not-Objects c.in_default.not-Collection c.in_default.not-Map c.in_default.not-Enums c.in_default.not-Object)
 
 pub value::Value::depth-greatest_depth-requires-in-Collection : goal.value::Value::depth-greatest_depth-requires-in-Collection
 value::Value::depth-greatest_depth-requires-in-Collection t c =
@@ -108,3 +108,21 @@ depth::greatest_pair_depth-loop-pair-preserved t c =
       | depth::greatest_pair_depth-then-greatest-second w ↦ rw add-one (omega (arith, more, this, first, c.loop-pair.invariant, c.depth-first.ensures, c.depth-second.ensures))
       | depth::greatest_pair_depth-else-greatest-second w ↦ rw add-one (omega (arith, more, this, first, c.loop-pair.invariant, c.depth-first.ensures, c.depth-second.ensures))
     ]
+
+pub value::Value::depth-greatest_depth-requires-in-Object : goal.value::Value::depth-greatest_depth-requires-in-Object
+value::Value::depth-greatest_depth-requires-in-Object t c =
+    let d = Depth_object c.args.self.now c.in-Object.object c.in-Object.is in
+    let same = ap (λ l. greatest (map Depth l)) (c.as_slice-in-Object.ensures ∙ ap (λ o. o.fields) c.get.ensures) in
+    (omega (arith, same), omega (arith, same))
+
+pub value::Value::depth-overflow_add-result-in-Object : goal.value::Value::depth-overflow_add-result-in-Object
+value::Value::depth-overflow_add-result-in-Object t c =
+    let d = Depth_object c.args.self.now c.in-Object.object c.in-Object.is in
+    let same = ap (λ l. greatest (map Depth l)) (c.as_slice-in-Object.ensures ∙ ap (λ o. o.fields) c.get.ensures) in
+    omega (arith, c.greatest_depth-in-Object.ensures, same)
+
+pub value::Value::depth-returns-in-Object : goal.value::Value::depth-returns-in-Object
+value::Value::depth-returns-in-Object t c =
+    let d = Depth_object c.args.self.now c.in-Object.object c.in-Object.is in
+    let same = ap (λ l. greatest (map Depth l)) (c.as_slice-in-Object.ensures ∙ ap (λ o. o.fields) c.get.ensures) in
+    omega (arith, c.greatest_depth-in-Object.ensures, same)

@@ -1,8 +1,10 @@
 -- Each row of the table.
-use Rattle.std.proofs.Common.{sym, ap, ◌∙◌}
+use Rattle.std.proofs.Common.{sym, ap, subst, ◌∙◌, ◌-◌, ◌<◌, ◌^◌, length}
+use Rattle.std.specs.Prelude.{IsTrue, ◌↔◌}
+use Rattle.ig_value.specs.Limits.{FitsTo, IsLimitedHead}
 use Rattle.ig_value.specs.declared.code.Code.TheVariants as code
 use Rattle.ig_value.specs.Table.{value_with}
-use Rattle.ig_value.proofs.LimitsLemmas.{fits_row, nothing_before, typed_before, kind_before}
+use Rattle.ig_value.proofs.LimitsLemmas.{fits_row, nothing_before, typed_before, kind_before, object_before}
 use Rattle.ig_value.proofs.limits.+limits.Goals as goal
 
 pub fits_to-returns-in-Byte : goal.fits_to-returns-in-Byte
@@ -140,3 +142,9 @@ fits_to-returns-in-Times t c =
 pub fits_to-returns-in-BinaryEnum : goal.fits_to-returns-in-BinaryEnum
 fits_to-returns-in-BinaryEnum t c =
     fits_row c.args.levels c.args.value.now code.BinaryEnum (c.in-BinaryEnum.type_id, c.in-BinaryEnum.ordinal) _ c.if-levels-eq0.false c.in-BinaryEnum.is c.both_limited-in-BinaryEnum.ensures
+
+pub fits_to-returns-in-Object : goal.fits_to-returns-in-Object
+fits_to-returns-in-Object t c =
+    fits_row c.args.levels c.args.value.now code.Object c.in-Object.object _ c.if-levels-eq0.false c.in-Object.is
+    (object_before (FitsTo (c.args.levels - 1)) c.in-Object.object c.as_slice-in-Object.result.now (c.as_slice-in-Object.ensures ∙ ap (λ o. o.fields) c.get-in-Object.ensures)
+    (subst (λ o. IsTrue c.is_limited_head.result ↔ ((length o.fields < 2 ^ 31) × IsLimitedHead o)) c.get.ensures c.is_limited_head.ensures) c.object_fits.ensures)
