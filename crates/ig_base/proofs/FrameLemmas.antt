@@ -76,6 +76,15 @@ front-inside least limit bytes body rest h =
       sym (drop-drop (length body) 4 bytes) ∙ ap (drop (length body)) parts.1 ∙ drop_at body rest (length body) refl,
     )
 
+pub front-within : (least limit : ℕ) (bytes body rest : List ℕ) → front least limit bytes ≡ Body body rest
+    → (4 + length body ≤ length bytes) × (body ≡ take (length body) (drop 4 bytes)) × (rest ≡ drop (4 + length body) bytes)
+unfolding front
+front-within least limit bytes body rest h =
+    let inside = front-inside least limit bytes body rest h in
+    let found = number_found least limit bytes body rest (number_at w32 bytes 0) h in
+    let parts = sized_reads found.0 (drop 4 bytes) body rest found.4 in
+    (inside.0, sym (ap (take (length body)) parts.1 ∙ take_at body rest (length body) refl), sym inside.1)
+
 -- what is found is a frame, and its body's length is in range
 pub front-reads : (least limit : ℕ) (bytes body rest : List ℕ) → AreBytes bytes → front least limit bytes ≡ Body body rest → IsBodyWithin least limit body × (bytes ≡ Frame body ++ rest)
 unfolding front Frame
@@ -280,6 +289,13 @@ Begins-pass {side} {input} {rest} {bodies} b body after is e = record {
       ∙ ap (λ l. l ++ after) (sym (flat_map-append Frame bodies (body ∷ []) ∙ ap (λ l. flat_map Frame bodies ++ l) (append-nil (Frame body))));
   each = AreBodies-push side bodies body b.each is;
 }
+
+-- one more frame is found
+pub Begins-next : (side : Side) (input after body rest : List ℕ) (bodies : List (List ℕ)) → AreBytes after → Begins side input bodies after
+    → front (least_after side bodies) max_body after ≡ Body body rest → Begins side input (bodies ++ body ∷ []) rest
+Begins-next side input after body rest bodies are b found =
+    let read = front-reads (least_after side bodies) max_body after body rest are found in
+    Begins-pass b body rest read.0 read.1
 
 -- ---- each stream has exactly one cut
 

@@ -1,9 +1,9 @@
 //! Laws about frames. Each is a function without parameters whose contract is the law.
 
-ghost use Rattle.std.specs.Prelude.{◌≡◌, ◌-◌, ◌++◌, ◌<◌, ◌≤◌, ◌^◌, ℕ, ℤ, pos, List, [], length, take, drop, FitsSigned};
+ghost use Rattle.std.specs.Prelude.{◌≡◌, ◌+◌, ◌-◌, ◌++◌, ◌<◌, ◌≤◌, ◌^◌, ℕ, ℤ, pos, List, [], ◌∷◌, length, take, drop, FitsSigned};
 ghost use Rattle.std.specs.Int.{w32};
 ghost use Rattle.ig_base.specs.Numbers.{LE, AreBytes};
-ghost use Rattle.ig_base.specs.Frames.{Frame, Side, IsBodyWithin, IsOutOfRange, front, Body, Bad, Incomplete, Cut};
+ghost use Rattle.ig_base.specs.Frames.{Frame, Side, IsBodyWithin, IsOutOfRange, front, max_body, Body, Bad, Incomplete, least_after, Begins, HasNoFrame, Cut};
 
 /// What bytes begin with, where a body has at least `least` and at most `limit` bytes.
 ///
@@ -19,6 +19,10 @@ pub fn frame_is_read()
     ensures found { (least limit : ℕ) (bytes body more : List ℕ) → AreBytes bytes
         → front least limit bytes ≡ Body body more
         → IsBodyWithin least limit body × (bytes ≡ Frame body ++ more) }
+    ensures within { (least limit : ℕ) (bytes body more : List ℕ)
+        → front least limit bytes ≡ Body body more
+        → (4 + length body ≤ length bytes) × (body ≡ take (length body) (drop 4 bytes))
+            × (more ≡ drop (4 + length body) bytes) }
     ensures refused { (least limit : ℕ) (bytes : List ℕ) (n : ℤ) → AreBytes bytes
         → front least limit bytes ≡ Bad n
         → (4 ≤ length bytes) × (LE w32 n ≡ take 4 bytes) × IsOutOfRange least limit n }
@@ -40,6 +44,21 @@ pub fn frame_is_read()
     ensures completed { (least limit : ℕ) (bytes more : List ℕ) (missing : ℕ) → 4 ≤ length bytes
         → front least limit bytes ≡ Incomplete missing → length more ≡ missing
         → front least limit (bytes ++ more) ≡ Body (drop 4 bytes ++ more) [] }
+{}
+
+/// How the frames at the beginning of a stream grow in number: none at first; the same while more of
+/// the stream comes; one more where a frame is found after them; and where none is found they are cut.
+pub fn frames_follow()
+    ensures none { (side : Side) (input : List ℕ) → Begins side input [] input }
+    ensures more { (side : Side) (input after more : List ℕ) (bodies : List (List ℕ))
+        → Begins side input bodies after → Begins side (input ++ more) bodies (after ++ more) }
+    ensures next { (side : Side) (input after body rest : List ℕ) (bodies : List (List ℕ))
+        → AreBytes after → Begins side input bodies after
+        → front (least_after side bodies) max_body after ≡ Body body rest
+        → Begins side input (bodies ++ body ∷ []) rest }
+    ensures cut { (side : Side) (input after : List ℕ) (bodies : List (List ℕ))
+        → Begins side input bodies after → HasNoFrame (front (least_after side bodies) max_body after)
+        → Cut side input bodies after }
 {}
 
 /// Every stream of bytes has exactly one cut into frames: some bodies and a rest are its cut, and no

@@ -21,7 +21,7 @@ mod octets;
 mod text;
 
 pub use entry::Entry;
-pub use frames::{frame_is_read, one_cut};
+pub use frames::{frame_is_read, frames_follow, one_cut};
 pub use hashes::{NotAscii, bytes_hash, hash_composes, name_id, schema_id, text_hash};
 pub use header::{
     COMPACT_FOOTER, Footer, HAS_SCHEMA, Header, ONE_BYTE_OFFSETS, RAW_DATA, TWO_BYTE_OFFSETS,
