@@ -116,8 +116,14 @@ impl Frames {
     {
         let rest = &self.bytes[self.start..];
         match front_of(rest, least, self.limit) {
-            Found::Body(len) => Next::Frame { place: self.place, body: &rest[4..4 + len] },
-            Found::Bad(length) => Next::Bad { place: self.place, length },
+            Found::Body(len) => Next::Frame {
+                place: self.place,
+                body: &rest[4..4 + len],
+            },
+            Found::Bad(length) => Next::Bad {
+                place: self.place,
+                length,
+            },
             Found::Missing(missing) => Next::More { missing },
         }
     }
@@ -135,7 +141,10 @@ impl Frames {
                 let body = self.start + 4;
                 self.start = body + len;
                 self.place = place.saturating_add(4 + len as u64);
-                Next::Frame { place, body: &self.bytes[body..body + len] }
+                Next::Frame {
+                    place,
+                    body: &self.bytes[body..body + len],
+                }
             }
             Found::Bad(length) => Next::Bad { place, length },
             Found::Missing(missing) => Next::More { missing },

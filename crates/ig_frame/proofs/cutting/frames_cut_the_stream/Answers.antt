@@ -7,4 +7,4 @@ pub returns-clause-passed : goal.returns-clause-passed
 returns-clause-passed c side s input body rest bodies limit are handed found =
     let here = ap (λ (l : ℕ). front (least_after side bodies) l s.rest) (sym limit) ∙ found in
     HandedOut-passed side s input body rest bodies (least_after side bodies) handed found
-      (c.frames_follow.ensures.next side input s.rest body rest bodies are handed.begins here)
+    (c.frames_follow.ensures.next side input s.rest body rest bodies are handed.begins here)
