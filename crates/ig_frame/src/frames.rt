@@ -185,3 +185,11 @@ impl Frames {
         }
     }
 }
+
+#[cfg(test)]
+impl Frames {
+    /// The bytes that the buffer has room for.
+    pub(crate) fn room(&self) -> usize {
+        self.bytes.capacity()
+    }
+}

@@ -27,3 +27,6 @@ mod next;
 pub use cutting::{frames_cut_the_stream, place_in_the_stream};
 pub use frames::{Frames, MAX_FRAME};
 pub use next::Next;
+
+#[cfg(test)]
+mod tests;

@@ -1,7 +1,7 @@
 //! What a stream has at a place.
 
 /// What a stream has at its place.
-#[derive(Debug)]
+#[derive(Clone, Copy, Debug, PartialEq, Eq)]
 pub enum Next<'a> {
     /// A whole frame.
     Frame {
