@@ -22,7 +22,7 @@ pub fn frame_is_read()
     ensures within { (least limit : ℕ) (bytes body more : List ℕ)
         → front least limit bytes ≡ Body body more
         → (4 + length body ≤ length bytes) × (body ≡ take (length body) (drop 4 bytes))
-            × (more ≡ drop (4 + length body) bytes) }
+        × (more ≡ drop (4 + length body) bytes) }
     ensures refused { (least limit : ℕ) (bytes : List ℕ) (n : ℤ) → AreBytes bytes
         → front least limit bytes ≡ Bad n
         → (4 ≤ length bytes) × (LE w32 n ≡ take 4 bytes) × IsOutOfRange least limit n }
@@ -32,7 +32,8 @@ pub fn frame_is_read()
     ensures short { (least limit : ℕ) (bytes : List ℕ) → length bytes < 4
         → front least limit bytes ≡ Incomplete (4 - length bytes) }
     ensures begun { (least limit n : ℕ) (bytes : List ℕ) → least ≤ n → n ≤ limit → n < 2 ^ 31
-        → length bytes < n → front least limit (LE w32 (pos n) ++ bytes) ≡ Incomplete (n - length bytes) }
+        → length bytes < n
+        → front least limit (LE w32 (pos n) ++ bytes) ≡ Incomplete (n - length bytes) }
     ensures some_missing { (least limit : ℕ) (bytes : List ℕ) (missing : ℕ)
         → front least limit bytes ≡ Incomplete missing → 0 < missing }
     ensures fewer { (least limit : ℕ) (bytes more : List ℕ) (missing : ℕ)

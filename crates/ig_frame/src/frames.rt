@@ -12,8 +12,8 @@
 //! ```
 //!
 //! The passed bytes are dropped when room is needed: what is left is moved down to the start, but only
-//! where at least as many bytes are dropped. So however the stream is cut, the moves that drop bytes
-//! are no more than the bytes of the stream, and so are those of a buffer that grows.
+//! where at least as many bytes are dropped. So however the stream is cut, no more bytes are moved down
+//! than were fed. A buffer that grows takes twice the room, so growing copies about as many at most.
 
 ghost use Rattle.std.specs.Prelude.{◌≡◌, ◌≤◌, ◌+◌, ◌++◌, drop, length, OnOk, OnErr};
 
@@ -56,12 +56,12 @@ impl Frames {
     ghost use mathlib.Core.Option.{none};
     ghost use denote.Follow.{follows_so};
     ghost use Rattle.ig_frame.specs.contracts.frames.Frames.{the_row};
-    ghost use Rattle.ig_frame.specs.Streams.{unfed, fed, front_at, passed};
+    ghost use Rattle.ig_frame.specs.Streams.{new_stream, longer_stream, front_at, stream_after_frame};
     ghost use Rattle.ig_frame.specs.Shows.{Shows};
 
     /// A stream of which nothing was fed. A body may have up to `limit` bytes. Takes no memory.
     pub fn new(alloc: Global, limit: u32) -> Frames
-        ensures { result ≡ unfed limit }
+        ensures { result ≡ new_stream limit }
     {
         Frames {
             bytes: Vec::new(alloc),
@@ -81,7 +81,7 @@ impl Frames {
 
     /// Appends the next piece of the stream. On an error nothing was fed.
     pub fn feed(&mut self, piece: &[u8]) -> Result<(), NoMemory>
-        ensures ok { OnOk result (self.new ≡ fed self.old piece.now) }
+        ensures ok { OnOk result (self.new ≡ longer_stream self.old piece.now) }
         ensures err { OnErr result (self.new ≡ self.old) }
     {
         self.make_room(piece.len());
@@ -132,7 +132,8 @@ impl Frames {
     /// large frame that was handed out before. Takes no memory.
     pub fn next(&mut self, least: u32) -> Next<'_>
         ensures shows { Shows result self.old (front_at least self.old) }
-        ensures* moves { sem 𝓛 (follows_so the_row the_row self.entry.ghost_name none (λ _ _. ⊤) (λ s. s ≡ passed least self.old)) }
+        ensures* moves { sem 𝓛 (follows_so the_row the_row self.entry.ghost_name none (λ _ _. ⊤)
+            (λ s. s ≡ stream_after_frame least self.old)) }
     {
         self.give_back();
         let place = self.place;
@@ -153,9 +154,9 @@ impl Frames {
 
     /// Moves past the frame that `look` shows, if it shows one. Then it gives back the room of a large
     /// frame that was handed out. Takes no memory.
-    #[tactic(auto, unfolding(crate::specs::Streams::passed))]
+    #[tactic(auto, unfolding(crate::specs::Streams::stream_after_frame))]
     pub fn pass(&mut self, least: u32)
-        ensures { self.new ≡ passed least self.old }
+        ensures { self.new ≡ stream_after_frame least self.old }
     {
         if let Found::Body(len) = front_of(&self.bytes[self.start..], least, self.limit) {
             self.start = self.start + 4 + len;

@@ -1,4 +1,4 @@
-use Rattle.ig_frame.proofs.StreamLemmas.{StandsFor-passed, passed-stays}
+use Rattle.ig_frame.proofs.StreamLemmas.{StandsFor-passed, stream_after_frame-stays}
 use Rattle.ig_frame.proofs.cutting.place_in_the_stream.Goals as goal
 
 pub returns-clause-passed : goal.returns-clause-passed
@@ -7,4 +7,4 @@ returns-clause-passed c s input body rest at least stands found =
     StandsFor-passed s input body rest at least stands found inside.0 inside.2
 
 pub returns-clause-stays : goal.returns-clause-stays
-returns-clause-stays c = passed-stays
+returns-clause-stays c = stream_after_frame-stays
