@@ -5,6 +5,8 @@
 //! number of frames; the least time of a round, in nanoseconds, and the bytes go to standard error.
 #![tactic(auto)]
 
+ghost use Rattle.std.specs.Prelude.{◌<◌};
+
 use anyhow::{Context, Result, ensure};
 use ig_frame::{Frames, MAX_FRAME, Next};
 use std::alloc::Global;
