@@ -4,11 +4,11 @@
 //! `start` past the frame that it lends, so no byte moves:
 //!
 //! ```text
-//!           start                                          start
-//!             |                                              |
-//!   +---------+------------+--------+------+       +---------+------------+--------+------+
-//!   | passed  | frame      | frame  | part |  next | passed    passed     | frame  | part |
-//!   +---------+------------+--------+------+  -->  +----------------------+--------+------+
+//!           start                                                        start
+//!             |                                                            |
+//!   +---------+------------+--------+------+  next  +----------------------+--------+------+
+//!   | passed  | frame      | frame  | part |  --->  | passed               | frame  | part |
+//!   +---------+------------+--------+------+        +----------------------+--------+------+
 //! ```
 //!
 //! The passed bytes are dropped when room is needed: what is left is moved down to the start, but only
@@ -128,8 +128,9 @@ impl Frames {
         }
     }
 
-    /// What stands at the place, which moves past it if it is a whole frame. It gives back the room of a
-    /// large frame that was handed out before. Takes no memory.
+    /// What stands at the place, which moves past it if it is a whole frame. First it gives back the room
+    /// of a large frame that was handed out before. It can't run out of memory: where a smaller buffer
+    /// is refused, it keeps the larger one.
     pub fn next(&mut self, least: u32) -> Next<'_>
         ensures shows { Shows result self.old (front_at least self.old) }
         ensures* moves { sem 𝓛 (follows_so the_row the_row self.entry.ghost_name none (λ _ _. ⊤)
@@ -152,8 +153,8 @@ impl Frames {
         }
     }
 
-    /// Moves past the frame that `look` shows, if it shows one. Then it gives back the room of a large
-    /// frame that was handed out. Takes no memory.
+    /// Moves past the frame that `look` shows for the same `least`, if it shows one. Then it gives back
+    /// the room of a large frame that was handed out. It can't run out of memory, as `next` can't.
     #[tactic(auto, unfolding(crate::specs::Streams::stream_after_frame))]
     pub fn pass(&mut self, least: u32)
         ensures { self.new ≡ stream_after_frame least self.old }
@@ -165,8 +166,9 @@ impl Frames {
         self.give_back();
     }
 
-    /// Gives back the room that is no longer needed, if much is and little is held. Where memory for
-    /// the smaller buffer is refused, it keeps the larger one.
+    /// Gives back room: where more than 128 KiB beyond the bytes held are there, and no more bytes are
+    /// held than were passed, it moves what is held into a buffer with 64 KiB beyond it. Where memory
+    /// for that is refused, it keeps the larger one.
     fn give_back(&mut self)
         ensures { self.new ≡ self.old }
     {
