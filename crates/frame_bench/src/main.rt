@@ -75,7 +75,10 @@ fn measure(
         let (cut, bodies) = cut(rt.alloc(), &stream, piece)?;
         least = least.min(start.elapsed(rt)?.as_nanos());
         ensure!(cut == count, "{cut} frames of {count}");
-        ensure!(bodies == count.wrapping_mul(u64::from(body)), "{bodies} bytes");
+        ensure!(
+            bodies == count.wrapping_mul(u64::from(body)),
+            "{bodies} bytes"
+        );
     }
     println!(rt; "{count} frames of {body} bytes by pieces of {piece}")?;
     eprintln!(rt; "{least} {}", stream.len())?;

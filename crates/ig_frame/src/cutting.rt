@@ -35,7 +35,7 @@ pub fn frames_cut_the_stream()
         → s.limit ≡ max_body → AreBytes s.rest → HandedOut side s input bodies
         → front_at (least_after side bodies) s ≡ Body body rest
         → HandedOut side (stream_after_frame (least_after side bodies) s) input
-            (bodies ++ body ∷ []) }
+        (bodies ++ body ∷ []) }
     ensures cut { (side : Side) (s : Stream) (input : List ℕ) (bodies : List (List ℕ))
         → s.limit ≡ max_body → HandedOut side s input bodies
         → HasNoFrame (front_at (least_after side bodies) s) → Cut side input bodies s.rest }

@@ -1,3 +1,5 @@
+ghost use Rattle.std.specs.Prelude.{◌≤◌};
+
 use super::*;
 use ig_base::NoMemory;
 use std::alloc::Global;
@@ -29,7 +31,10 @@ fn take(frames: &mut Frames, before: usize) -> Option<usize> {
     let mut count = before;
     for (place, body) in BODIES.iter().skip(before) {
         match frames.next(1) {
-            Next::Frame { place: at, body: bytes } => {
+            Next::Frame {
+                place: at,
+                body: bytes,
+            } => {
                 if at != *place || bytes != *body {
                     return None;
                 }
@@ -63,7 +68,10 @@ fn gives_frames(alloc: Global, first: usize, second: usize) -> Result<bool, NoMe
 fn cut_at_every_two_places(rt: HostRuntime) -> Result<(), Fail> {
     for second in 0..24 {
         for first in 0..=second {
-            assert!(rt; gives_frames(rt.alloc(), first, second)?, "{first} {second}");
+            assert!(rt;
+                gives_frames(rt.alloc(), first, second)?,
+                "{first} {second}"
+            );
         }
     }
     Ok(())
@@ -97,10 +105,26 @@ fn looks_leave_the_place(rt: HostRuntime) -> Result<(), Fail> {
     let mut frames = Frames::new(rt.alloc(), MAX_FRAME);
     assert!(rt; matches!(frames.look(1), Next::More { missing: 4 }));
     frames.feed(&STREAM)?;
-    assert!(rt; matches!(frames.look(1), Next::Frame { place: 0, body: [1, 2, 3] }));
+    assert!(rt;
+        matches!(
+            frames.look(1),
+            Next::Frame {
+                place: 0,
+                body: [1, 2, 3]
+            }
+        )
+    );
     assert!(rt; matches!(frames.look(1), Next::Frame { place: 0, .. }));
     frames.pass(1);
-    assert!(rt; matches!(frames.look(1), Next::Frame { place: 7, body: [4] }));
+    assert!(rt;
+        matches!(
+            frames.look(1),
+            Next::Frame {
+                place: 7,
+                body: [4]
+            }
+        )
+    );
     Ok(())
 }
 
@@ -112,7 +136,9 @@ fn room_is_given_back(rt: HostRuntime) -> Result<(), Fail> {
     for _ in 0..128 {
         frames.feed(&ZEROS)?;
     }
-    assert!(rt; matches!(frames.next(1), Next::Frame { place: 0, body } if body.len() == 8_388_608));
+    assert!(rt;
+        matches!(frames.next(1), Next::Frame { place: 0, body } if body.len() == 8_388_608)
+    );
     assert!(rt; frames.room() >= 8_388_608);
     assert!(rt; matches!(frames.next(1), Next::More { missing: 4 }));
     assert!(rt; frames.room() <= 65_536);
