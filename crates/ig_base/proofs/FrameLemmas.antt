@@ -1,16 +1,16 @@
 -- Lemmas on frames and on how a stream is cut into them.
-use Rattle.std.proofs.Common.{◌≡◌, ℕ, zero, suc, ◌+◌, ◌-◌, ◌<◌, ◌≤◌, ℤ, pos, negsuc, ◌&&◌, List, [], ◌∷◌, ◌++◌, length, length-take-le, take, drop, Option, None, Some, refl, sym, ap, ◌∙◌, arith, subst, append_assoc, append-nil, inl, inr}
+use Rattle.std.proofs.Common.{◌≡◌, ℕ, zero, suc, ◌+◌, ◌-◌, ◌<◌, ◌≤◌, ◌^◌, lit<, ℤ, pos, negsuc, ◌&&◌, List, [], ◌∷◌, ◌++◌, length, length-take-le, take, drop, Option, None, Some, refl, sym, ap, ◌∙◌, arith, subst, append_assoc, append-nil, inl, inr}
 use Rattle.std.proofs.lemmas.Bool.{le-ltb, lt-ltb, le-leb, leb-true, cond-true, cond-false, cases_Bool, cases_lt, and_from, and_parts}
 use Rattle.std.proofs.lemmas.Grind.{flat_map-append}
 use Rattle.std.proofs.lemmas.Int.{ints}
-use Rattle.std.proofs.lemmas.List.{get_or-append-add, length-append, length-drop, drop-drop, take_at, drop_at, take-append-drop, take-append-le, drop-append-le}
+use Rattle.std.proofs.lemmas.List.{get_or-append-add, length-append, length-drop, drop-drop, take_all, take_at, drop_at, take-append-drop, take-append-le, drop-append-le}
 use Rattle.std.specs.Prelude.{nat_lt, nat_le}
 use Rattle.std.specs.Int.{w32, cast_signed, from_le_bytes}
 use Rattle.std.specs.Int.RustNames.{FitsSigned}
 use Rattle.std.specs.List.{flat_map, AllByRecursion}
 use Rattle.ig_base.specs.Numbers.{LE, number_at, AreBytes}
-use Rattle.ig_base.specs.Frames.{max_body, Frame, Side, least_after, IsBody, AreBodies, Begins, Front, Body, Bad, Incomplete, front, front_from, front_sized, IsOutOfRange, HasNoFrame, Cut}
-use Rattle.ig_base.proofs.NumberLemmas.{length-LE_32, number_at-LE_32, LE-number_at_32, number_at-within, number_at-enough, number_at-short}
+use Rattle.ig_base.specs.Frames.{max_body, Frame, Side, least_after, IsBodyWithin, IsBody, AreBodies, Begins, Front, Body, Bad, Incomplete, front, front_from, front_sized, IsOutOfRange, HasNoFrame, Cut}
+use Rattle.ig_base.proofs.NumberLemmas.{length-LE_32, number_at-LE_32, LE-number_at_32, number_at-within, number_at-enough, number_at-short, number_at-fits}
 
 pub length-Frame : (body : List ℕ) → length (Frame body) ≡ 4 + length body
 unfolding Frame
@@ -24,19 +24,19 @@ sized_whole body rest =
     ∙ ap (λ b. Body b (drop (length body) (body ++ rest))) (take_at body rest (length body) refl)
     ∙ ap (Body body) (drop_at body rest (length body) refl)
 
-in_range : (least n : ℕ) (bytes : List ℕ) → least ≤ n → n ≤ max_body → front_from least bytes (Some (pos n)) ≡ front_sized n (drop 4 bytes)
-in_range least n bytes low high = cond-true (nat_le least n && nat_le n max_body) _ _ (and_from _ _ (le-leb least n low) (le-leb n max_body high))
+in_range : (least limit n : ℕ) (bytes : List ℕ) → least ≤ n → n ≤ limit → front_from least limit bytes (Some (pos n)) ≡ front_sized n (drop 4 bytes)
+in_range least limit n bytes low high = cond-true (nat_le least n && nat_le n limit) _ _ (and_from _ _ (le-leb least n low) (le-leb n limit high))
 
 -- a frame is found, whatever follows it
-pub front-Frame : (least : ℕ) (body rest : List ℕ) → IsBody least body → front least (Frame body ++ rest) ≡ Body body rest
+pub front-Frame : (least limit : ℕ) (body rest : List ℕ) → limit < 2 ^ 31 → IsBodyWithin least limit body → front least limit (Frame body ++ rest) ≡ Body body rest
 unfolding front Frame
-front-Frame least body rest is =
+front-Frame least limit body rest small is =
     let n = length body in
     let regrouped = append_assoc (LE w32 (pos n)) body rest in
-    let fits : FitsSigned w32 (pos n) = record { sfits = omega (arith, is.greatest_length) } in
-    ap (front least) regrouped
-    ∙ ap (front_from least (LE w32 (pos n) ++ (body ++ rest))) (number_at-LE_32 (pos n) (body ++ rest) fits)
-    ∙ in_range least n (LE w32 (pos n) ++ (body ++ rest)) is.least_length is.greatest_length
+    let fits : FitsSigned w32 (pos n) = record { sfits = omega (arith, small, is.greatest_length) } in
+    ap (front least limit) regrouped
+    ∙ ap (front_from least limit (LE w32 (pos n) ++ (body ++ rest))) (number_at-LE_32 (pos n) (body ++ rest) fits)
+    ∙ in_range least limit n (LE w32 (pos n) ++ (body ++ rest)) is.least_length is.greatest_length
     ∙ ap (front_sized n) (drop_at (LE w32 (pos n)) (body ++ rest) 4 (length-LE_32 (pos n)))
     ∙ sized_whole body rest
 
@@ -52,35 +52,44 @@ sized_reads n bytes body rest h = elim (cases_lt (length bytes) n) [
 ]
 
 -- the length that a frame that is found begins with
-number_found : (least : ℕ) (bytes body rest : List ℕ) (read : Option ℤ) → front_from least bytes read ≡ Body body rest
-    → (n : ℕ) × (read ≡ Some (pos n)) × (least ≤ n) × (n ≤ max_body) × (front_sized n (drop 4 bytes) ≡ Body body rest)
-number_found least bytes body rest None h = cc
-number_found least bytes body rest (Some (negsuc n)) h = cc
-number_found least bytes body rest (Some (pos n)) h =
+number_found : (least limit : ℕ) (bytes body rest : List ℕ) (read : Option ℤ) → front_from least limit bytes read ≡ Body body rest
+    → (n : ℕ) × (read ≡ Some (pos n)) × (least ≤ n) × (n ≤ limit) × (front_sized n (drop 4 bytes) ≡ Body body rest)
+number_found least limit bytes body rest None h = cc
+number_found least limit bytes body rest (Some (negsuc n)) h = cc
+number_found least limit bytes body rest (Some (pos n)) h =
     let inside = front_sized n (drop 4 bytes) in
-    elim (cases_Bool (nat_le least n && nat_le n max_body)) [
+    elim (cases_Bool (nat_le least n && nat_le n limit)) [
       | inl fits ↦
           let both = and_parts _ _ fits in
-          (n, refl, leb-true _ _ both.0, leb-true _ _ both.1, sym (cond-true (nat_le least n && nat_le n max_body) inside (Bad (pos n)) fits) ∙ h)
-      | inr out ↦ let bad = cond-false (nat_le least n && nat_le n max_body) inside (Bad (pos n)) out in cc
+          (n, refl, leb-true _ _ both.0, leb-true _ _ both.1, sym (cond-true (nat_le least n && nat_le n limit) inside (Bad (pos n)) fits) ∙ h)
+      | inr out ↦ let bad = cond-false (nat_le least n && nat_le n limit) inside (Bad (pos n)) out in cc
     ]
 
 -- where a whole frame that is found lies
-pub front-inside : (least : ℕ) (bytes body rest : List ℕ) → front least bytes ≡ Body body rest → (4 + length body ≤ length bytes) × (drop (4 + length body) bytes ≡ rest)
+pub front-inside : (least limit : ℕ) (bytes body rest : List ℕ) → front least limit bytes ≡ Body body rest → (4 + length body ≤ length bytes) × (drop (4 + length body) bytes ≡ rest)
 unfolding front
-front-inside least bytes body rest h =
-    let found = number_found least bytes body rest (number_at w32 bytes 0) h in
+front-inside least limit bytes body rest h =
+    let found = number_found least limit bytes body rest (number_at w32 bytes 0) h in
     let within = number_at-within (pos found.0) bytes found.1 in
     let parts = sized_reads found.0 (drop 4 bytes) body rest found.4 in (
       omega (arith, within, ap length parts.1, length-append body rest, length-drop 4 bytes),
       sym (drop-drop (length body) 4 bytes) ∙ ap (drop (length body)) parts.1 ∙ drop_at body rest (length body) refl,
     )
 
+pub front-within : (least limit : ℕ) (bytes body rest : List ℕ) → front least limit bytes ≡ Body body rest
+    → (4 + length body ≤ length bytes) × (body ≡ take (length body) (drop 4 bytes)) × (rest ≡ drop (4 + length body) bytes)
+unfolding front
+front-within least limit bytes body rest h =
+    let inside = front-inside least limit bytes body rest h in
+    let found = number_found least limit bytes body rest (number_at w32 bytes 0) h in
+    let parts = sized_reads found.0 (drop 4 bytes) body rest found.4 in
+    (inside.0, sym (ap (take (length body)) parts.1 ∙ take_at body rest (length body) refl), sym inside.1)
+
 -- what is found is a frame, and its body's length is in range
-pub front-reads : (least : ℕ) (bytes body rest : List ℕ) → AreBytes bytes → front least bytes ≡ Body body rest → IsBody least body × (bytes ≡ Frame body ++ rest)
+pub front-reads : (least limit : ℕ) (bytes body rest : List ℕ) → AreBytes bytes → front least limit bytes ≡ Body body rest → IsBodyWithin least limit body × (bytes ≡ Frame body ++ rest)
 unfolding front Frame
-front-reads least bytes body rest are h =
-    let found = number_found least bytes body rest (number_at w32 bytes 0) h in
+front-reads least limit bytes body rest are h =
+    let found = number_found least limit bytes body rest (number_at w32 bytes 0) h in
     let n = found.0 in
     let parts = sized_reads n (drop 4 bytes) body rest found.4 in
     let spelled = LE-number_at_32 (pos n) bytes are found.1 in
@@ -97,36 +106,36 @@ sized_never_bad k bytes n h = elim (cases_lt (length bytes) k) [
 ]
 
 -- a length that is refused is out of range
-bad_number : (least : ℕ) (bytes : List ℕ) (n : ℤ) (read : Option ℤ) → front_from least bytes read ≡ Bad n → (read ≡ Some n) × IsOutOfRange least n
-bad_number least bytes n None h = cc
-bad_number least bytes n (Some (negsuc k)) h =
+bad_number : (least limit : ℕ) (bytes : List ℕ) (n : ℤ) (read : Option ℤ) → front_from least limit bytes read ≡ Bad n → (read ≡ Some n) × IsOutOfRange least limit n
+bad_number least limit bytes n None h = cc
+bad_number least limit bytes n (Some (negsuc k)) h =
     let same : negsuc k ≡ n = cc in
-    (ap Some same, subst (IsOutOfRange least) same (λ low high. absurd (omega (arith, ints, low))))
-bad_number least bytes n (Some (pos k)) h = elim (cases_Bool (nat_le least k && nat_le k max_body)) [
+    (ap Some same, subst (IsOutOfRange least limit) same (λ low high. absurd (omega (arith, ints, low))))
+bad_number least limit bytes n (Some (pos k)) h = elim (cases_Bool (nat_le least k && nat_le k limit)) [
   | inl fits ↦
-      let whole = cond-true (nat_le least k && nat_le k max_body) (front_sized k (drop 4 bytes)) (Bad (pos k)) fits in
+      let whole = cond-true (nat_le least k && nat_le k limit) (front_sized k (drop 4 bytes)) (Bad (pos k)) fits in
       absurd (sized_never_bad k (drop 4 bytes) n (sym whole ∙ h))
   | inr out ↦
-      let bad = cond-false (nat_le least k && nat_le k max_body) (front_sized k (drop 4 bytes)) (Bad (pos k)) out in
+      let bad = cond-false (nat_le least k && nat_le k limit) (front_sized k (drop 4 bytes)) (Bad (pos k)) out in
       let same : pos k ≡ n = cc in (
         ap Some same,
-        subst (IsOutOfRange least) same (λ low high.
-            let yes = and_from _ _ (le-leb least k (omega (arith, ints, low))) (le-leb k max_body (omega (arith, ints, high))) in cc),
+        subst (IsOutOfRange least limit) same (λ low high.
+            let yes = and_from _ _ (le-leb least k (omega (arith, ints, low))) (le-leb k limit (omega (arith, ints, high))) in cc),
       )
 ]
 
-pub front-bad : (least : ℕ) (bytes : List ℕ) (n : ℤ) → AreBytes bytes → front least bytes ≡ Bad n → (4 ≤ length bytes) × (LE w32 n ≡ take 4 bytes) × IsOutOfRange least n
+pub front-bad : (least limit : ℕ) (bytes : List ℕ) (n : ℤ) → AreBytes bytes → front least limit bytes ≡ Bad n → (4 ≤ length bytes) × (LE w32 n ≡ take 4 bytes) × IsOutOfRange least limit n
 unfolding front
-front-bad least bytes n are h =
-    let found = bad_number least bytes n (number_at w32 bytes 0) h in
+front-bad least limit bytes n are h =
+    let found = bad_number least limit bytes n (number_at w32 bytes 0) h in
     (number_at-within n bytes found.0, LE-number_at_32 n bytes are found.0, found.1)
 
 -- ---- incomplete frames
 
 -- less than the four bytes of a length
-pub front-short : (least : ℕ) (bytes : List ℕ) → length bytes < 4 → front least bytes ≡ Incomplete (4 - length bytes)
+pub front-short : (least limit : ℕ) (bytes : List ℕ) → length bytes < 4 → front least limit bytes ≡ Incomplete (4 - length bytes)
 unfolding front
-front-short least bytes short = ap (front_from least bytes) (number_at-short bytes short)
+front-short least limit bytes short = ap (front_from least limit bytes) (number_at-short bytes short)
 
 sized_incomplete : (n missing : ℕ) (bytes : List ℕ) → front_sized n bytes ≡ Incomplete missing → (length bytes < n) × (missing ≡ n - length bytes)
 sized_incomplete n missing bytes h = elim (cases_lt (length bytes) n) [
@@ -138,70 +147,121 @@ sized_incomplete n missing bytes h = elim (cases_lt (length bytes) n) [
 ]
 
 -- the length that an incomplete frame begins with, if all its four bytes are there
-record BeginsIncomplete (least missing : ℕ) (bytes : List ℕ) (n : ℕ) : Type 0 where
+record BeginsIncomplete (least limit missing : ℕ) (bytes : List ℕ) (n : ℕ) : Type 0 where
   read : number_at w32 bytes 0 ≡ Some (pos n)
   low : least ≤ n
-  high : n ≤ max_body
+  high : n ≤ limit
   short : length (drop 4 bytes) < n
   missing_is : missing ≡ n - length (drop 4 bytes)
 
-number_incomplete : (least missing : ℕ) (bytes : List ℕ) (read : Option ℤ) → 4 ≤ length bytes → number_at w32 bytes 0 ≡ read
-    → front_from least bytes read ≡ Incomplete missing → (n : ℕ) × BeginsIncomplete least missing bytes n
-number_incomplete least missing bytes None long e h = let some = number_at-enough bytes long in cc
-number_incomplete least missing bytes (Some (negsuc n)) long e h = cc
-number_incomplete least missing bytes (Some (pos n)) long e h =
+number_incomplete : (least limit missing : ℕ) (bytes : List ℕ) (read : Option ℤ) → 4 ≤ length bytes → number_at w32 bytes 0 ≡ read
+    → front_from least limit bytes read ≡ Incomplete missing → (n : ℕ) × BeginsIncomplete least limit missing bytes n
+number_incomplete least limit missing bytes None long e h = let some = number_at-enough bytes long in cc
+number_incomplete least limit missing bytes (Some (negsuc n)) long e h = cc
+number_incomplete least limit missing bytes (Some (pos n)) long e h =
     let inside = front_sized n (drop 4 bytes) in
-    elim (cases_Bool (nat_le least n && nat_le n max_body)) [
+    elim (cases_Bool (nat_le least n && nat_le n limit)) [
       | inl fits ↦
           let both = and_parts _ _ fits in
-          let part = sized_incomplete n missing (drop 4 bytes) (sym (cond-true (nat_le least n && nat_le n max_body) inside (Bad (pos n)) fits) ∙ h) in
+          let part = sized_incomplete n missing (drop 4 bytes) (sym (cond-true (nat_le least n && nat_le n limit) inside (Bad (pos n)) fits) ∙ h) in
           (n, record { read = e; low = leb-true _ _ both.0; high = leb-true _ _ both.1; short = part.0; missing_is = part.1 })
-      | inr out ↦ let bad = cond-false (nat_le least n && nat_le n max_body) inside (Bad (pos n)) out in cc
+      | inr out ↦ let bad = cond-false (nat_le least n && nat_le n limit) inside (Bad (pos n)) out in cc
     ]
 
 -- more bytes after a length leave the length
-front-more : (least n : ℕ) (bytes more : List ℕ) → 4 ≤ length bytes → number_at w32 bytes 0 ≡ Some (pos n) → least ≤ n → n ≤ max_body
-    → front least (bytes ++ more) ≡ front_sized n (drop 4 bytes ++ more)
+front-more : (least limit n : ℕ) (bytes more : List ℕ) → 4 ≤ length bytes → number_at w32 bytes 0 ≡ Some (pos n) → least ≤ n → n ≤ limit
+    → front least limit (bytes ++ more) ≡ front_sized n (drop 4 bytes ++ more)
 unfolding front
-front-more least n bytes more long read low high =
+front-more least limit n bytes more long read low high =
     let whole : number_at w32 (bytes ++ more) 0 ≡ Some (pos n) =
     number_at-enough (bytes ++ more) (omega (arith, length-append bytes more))
     ∙ ap (λ l. Some (cast_signed w32 (from_le_bytes w32 l))) (take-append-le 4 bytes more long) ∙ sym (number_at-enough bytes long) ∙ read in
-    ap (front_from least (bytes ++ more)) whole ∙ in_range least n (bytes ++ more) low high ∙ ap (front_sized n) (drop-append-le 4 bytes more long)
+    ap (front_from least limit (bytes ++ more)) whole ∙ in_range least limit n (bytes ++ more) low high ∙ ap (front_sized n) (drop-append-le 4 bytes more long)
 
 -- an incomplete frame with fewer bytes than are missing is incomplete
-pub front-fewer : (least : ℕ) (bytes more : List ℕ) (missing : ℕ) → front least bytes ≡ Incomplete missing → length more < missing
-    → front least (bytes ++ more) ≡ Incomplete (missing - length more)
+pub front-fewer : (least limit : ℕ) (bytes more : List ℕ) (missing : ℕ) → front least limit bytes ≡ Incomplete missing → length more < missing
+    → front least limit (bytes ++ more) ≡ Incomplete (missing - length more)
 unfolding front
-front-fewer least bytes more missing h fewer = elim (cases_lt (length bytes) 4) [
+front-fewer least limit bytes more missing h fewer = elim (cases_lt (length bytes) 4) [
   | inl short ↦
-      let now = front-short least bytes short in
+      let now = front-short least limit bytes short in
       let same : missing ≡ 4 - length bytes = cc in
       let all = length-append bytes more in
-      front-short least (bytes ++ more) (omega (arith, all, same))
+      front-short least limit (bytes ++ more) (omega (arith, all, same))
       ∙ ap Incomplete (omega (arith, all, same))
   | inr long ↦
-      let found = number_incomplete least missing bytes (number_at w32 bytes 0) long refl h in
+      let found = number_incomplete least limit missing bytes (number_at w32 bytes 0) long refl h in
       let n = found.0 in
       let all = length-append (drop 4 bytes) more in
-      front-more least n bytes more long found.1.read found.1.low found.1.high
+      front-more least limit n bytes more long found.1.read found.1.low found.1.high
       ∙ cond-true (nat_lt (length (drop 4 bytes ++ more)) n) _ _ (lt-ltb _ _ (omega (arith, all, found.1.short, found.1.missing_is)))
       ∙ ap Incomplete (omega (arith, all, found.1.missing_is))
 ]
 
--- with the bytes that are missing after a length the frame is whole
-pub front-completed : (least : ℕ) (bytes more : List ℕ) (missing : ℕ) → 4 ≤ length bytes → front least bytes ≡ Incomplete missing → length more ≡ missing
-    → (body : List ℕ) × (front least (bytes ++ more) ≡ Body body [])
+-- with the bytes that are missing after a length the frame is whole, and nothing follows it
+pub front-completed : (least limit : ℕ) (bytes more : List ℕ) (missing : ℕ) → 4 ≤ length bytes → front least limit bytes ≡ Incomplete missing → length more ≡ missing
+    → front least limit (bytes ++ more) ≡ Body (drop 4 bytes ++ more) []
 unfolding front
-front-completed least bytes more missing long h enough =
-    let found = number_incomplete least missing bytes (number_at w32 bytes 0) long refl h in
+front-completed least limit bytes more missing long h enough =
+    let found = number_incomplete least limit missing bytes (number_at w32 bytes 0) long refl h in
     let n = found.0 in
     let body : List ℕ = drop 4 bytes ++ more in
-    let size : length body ≡ n = omega (arith, length-append (drop 4 bytes) more, found.1.short, found.1.missing_is) in (
-      body,
-      front-more least n bytes more long found.1.read found.1.low found.1.high
-          ∙ ap (λ (l : List ℕ). front_sized n l) (sym (append-nil body)) ∙ ap (λ k. front_sized k (body ++ [])) (sym size) ∙ sized_whole body [],
+    let size : length body ≡ n = omega (arith, length-append (drop 4 bytes) more, found.1.short, found.1.missing_is) in
+    front-more least limit n bytes more long found.1.read found.1.low found.1.high
+    ∙ ap (λ (l : List ℕ). front_sized n l) (sym (append-nil body)) ∙ ap (λ k. front_sized k (body ++ [])) (sym size) ∙ sized_whole body []
+
+-- with the bytes that are missing of a length, and no more, the length is known
+pub front-known : (least limit : ℕ) (bytes more : List ℕ) (missing : ℕ) → AreBytes (bytes ++ more) → length bytes < 4 → front least limit bytes ≡ Incomplete missing
+    → length more ≡ missing → (n : ℤ) × FitsSigned w32 n × (LE w32 n ≡ bytes ++ more)
+front-known least limit bytes more missing are short h enough =
+    let now = front-short least limit bytes short in
+    let same : missing ≡ 4 - length bytes = cc in
+    let all : length (bytes ++ more) ≡ 4 = omega (arith, length-append bytes more, same) in
+    let read : ℕ = from_le_bytes w32 (take 4 (bytes ++ more)) in
+    let found = number_at-enough (bytes ++ more) (omega (arith, all)) in (
+      cast_signed w32 read,
+      number_at-fits (bytes ++ more) are (omega (arith, all)),
+      LE-number_at_32 (cast_signed w32 read) (bytes ++ more) are found ∙ take_all 4 (bytes ++ more) (omega (arith, all)),
     )
+
+-- something is missing of an incomplete frame
+pub front-some-missing : (least limit : ℕ) (bytes : List ℕ) (missing : ℕ) → front least limit bytes ≡ Incomplete missing → 0 < missing
+unfolding front
+front-some-missing least limit bytes missing h = elim (cases_lt (length bytes) 4) [
+  | inl short ↦
+      let now = front-short least limit bytes short in
+      let same : missing ≡ 4 - length bytes = cc in
+      omega (arith, same)
+  | inr long ↦
+      let found = number_incomplete least limit missing bytes (number_at w32 bytes 0) long refl h in
+      omega (arith, found.1.short, found.1.missing_is)
+]
+
+-- a length in range with less than its body after it
+pub front-begun : (least limit n : ℕ) (bytes : List ℕ) → least ≤ n → n ≤ limit → n < 2 ^ 31 → length bytes < n
+    → front least limit (LE w32 (pos n) ++ bytes) ≡ Incomplete (n - length bytes)
+unfolding front
+front-begun least limit n bytes low high small short =
+    let fits : FitsSigned w32 (pos n) = record { sfits = omega arith } in
+    ap (front_from least limit (LE w32 (pos n) ++ bytes)) (number_at-LE_32 (pos n) bytes fits)
+    ∙ in_range least limit n (LE w32 (pos n) ++ bytes) low high
+    ∙ ap (front_sized n) (drop_at (LE w32 (pos n)) bytes 4 (length-LE_32 (pos n)))
+    ∙ cond-true (nat_lt (length bytes) n) _ _ (lt-ltb _ _ short)
+
+out_of_range : (least limit : ℕ) (n : ℤ) (bytes : List ℕ) → IsOutOfRange least limit n → front_from least limit bytes (Some n) ≡ Bad n
+out_of_range least limit (negsuc n) bytes out = refl
+out_of_range least limit (pos n) bytes out = elim (cases_Bool (nat_le least n && nat_le n limit)) [
+  | inl fits ↦ let both = and_parts (nat_le least n) (nat_le n limit) fits in
+      let low = leb-true least n both.0 in
+      let high = leb-true n limit both.1 in
+      absurd (out (omega (arith, ints)) (omega (arith, ints)))
+  | inr outside ↦ cond-false (nat_le least n && nat_le n limit) (front_sized n (drop 4 bytes)) (Bad (pos n)) outside
+]
+
+-- a length that is out of range is refused, whatever follows it
+pub front-out : (least limit : ℕ) (n : ℤ) (more : List ℕ) → FitsSigned w32 n → IsOutOfRange least limit n → front least limit (LE w32 n ++ more) ≡ Bad n
+unfolding front
+front-out least limit n more fits out = ap (front_from least limit (LE w32 n ++ more)) (number_at-LE_32 n more fits) ∙ out_of_range least limit n (LE w32 n ++ more) out
 
 -- ---- the bodies of a stream's first frames
 
@@ -230,6 +290,13 @@ Begins-pass {side} {input} {rest} {bodies} b body after is e = record {
   each = AreBodies-push side bodies body b.each is;
 }
 
+-- one more frame is found
+pub Begins-next : (side : Side) (input after body rest : List ℕ) (bodies : List (List ℕ)) → AreBytes after → Begins side input bodies after
+    → front (least_after side bodies) max_body after ≡ Body body rest → Begins side input (bodies ++ body ∷ []) rest
+Begins-next side input after body rest bodies are b found =
+    let read = front-reads (least_after side bodies) max_body after body rest are found in
+    Begins-pass b body rest read.0 read.1
+
 -- ---- each stream has exactly one cut
 
 -- a side whose every body has the least length of a later one
@@ -254,22 +321,22 @@ cut_after_body side input body bodies rest cut = (
   cut.begins.whole ∙ append_assoc (Frame body) (flat_map Frame bodies) rest,
   record {
     begins = record { whole = refl; each = again_bodies side bodies cut.begins.each.1 };
-    ends = subst (λ (least : ℕ). HasNoFrame (front least rest)) (sym (again_least side bodies)) cut.ends;
+    ends = subst (λ (least : ℕ). HasNoFrame (front least max_body rest)) (sym (again_least side bodies)) cut.ends;
   },
 )
 
 cut_found : (side : Side) (input : List ℕ) (body : List ℕ) (bodies : List (List ℕ)) (rest : List ℕ) → Cut side input (body ∷ bodies) rest
-    → front side.first input ≡ Body body (flat_map Frame bodies ++ rest)
+    → front side.first max_body input ≡ Body body (flat_map Frame bodies ++ rest)
 cut_found side input body bodies rest cut =
-    ap (front side.first) (cut_after_body side input body bodies rest cut).0 ∙ front-Frame side.first body (flat_map Frame bodies ++ rest) cut.begins.each.0
+    ap (front side.first max_body) (cut_after_body side input body bodies rest cut).0 ∙ front-Frame side.first max_body body (flat_map Frame bodies ++ rest) (lit< tt) cut.begins.each.0
 
 -- no stream has two cuts
 pub same_cut : (bodies others : List (List ℕ)) (side : Side) (input rest end : List ℕ) → Cut side input bodies rest → Cut side input others end → (bodies ≡ others) × (rest ≡ end)
 same_cut [] [] side input rest end a b = (refl, sym a.begins.whole ∙ b.begins.whole)
 same_cut [] (other ∷ others) side input rest end a b =
-    absurd (subst HasNoFrame (ap (front side.first) (sym a.begins.whole) ∙ cut_found side input other others end b) a.ends)
+    absurd (subst HasNoFrame (ap (front side.first max_body) (sym a.begins.whole) ∙ cut_found side input other others end b) a.ends)
 same_cut (body ∷ bodies) [] side input rest end a b =
-    absurd (subst HasNoFrame (ap (front side.first) (sym b.begins.whole) ∙ cut_found side input body bodies rest a) b.ends)
+    absurd (subst HasNoFrame (ap (front side.first max_body) (sym b.begins.whole) ∙ cut_found side input body bodies rest a) b.ends)
 same_cut (body ∷ bodies) (other ∷ others) side input rest end a b =
     let one = cut_found side input body bodies rest a in
     let two = cut_found side input other others end b in
@@ -296,27 +363,27 @@ cut_before side body input bodies rest is cut = record {
     whole = ap (λ l. Frame body ++ l) cut.begins.whole ∙ sym (append_assoc (Frame body) (flat_map Frame bodies) rest);
     each = (is, later_bodies side bodies cut.begins.each);
   };
-  ends = subst (λ (least : ℕ). HasNoFrame (front least rest)) (again_least side bodies) cut.ends;
+  ends = subst (λ (least : ℕ). HasNoFrame (front least max_body rest)) (again_least side bodies) cut.ends;
 }
 
 abbrev HasCut : Side → List ℕ → Type 0
 HasCut side input = (bodies : List (List ℕ)) × (rest : List ℕ) × Cut side input bodies rest
 
-cut_here : (side : Side) (input : List ℕ) → HasNoFrame (front side.first input) → HasCut side input
+cut_here : (side : Side) (input : List ℕ) → HasNoFrame (front side.first max_body input) → HasCut side input
 cut_here side input ends = ([], input, record { begins = Begins-start side input; ends = ends })
 
-at_front : (fuel : ℕ) (side : Side) (input : List ℕ) → length input ≤ fuel → AreBytes input → (found : Front) → front side.first input ≡ found → HasCut side input
+at_front : (fuel : ℕ) (side : Side) (input : List ℕ) → length input ≤ fuel → AreBytes input → (found : Front) → front side.first max_body input ≡ found → HasCut side input
 at_front fuel side input bound are (Bad n) e = cut_here side input (subst HasNoFrame (sym e) tt)
 at_front fuel side input bound are (Incomplete missing) e = cut_here side input (subst HasNoFrame (sym e) tt)
 at_front zero side input bound are (Body body rest) e =
-    let read = front-reads side.first input body rest are e in
+    let read = front-reads side.first max_body input body rest are e in
     let len = ap length read.1 ∙ length-append (Frame body) rest in
     absurd (omega (arith, len, length-Frame body))
 at_front (suc fuel) side input bound are (Body body rest) e =
-    let read = front-reads side.first input body rest are e in
+    let read = front-reads side.first max_body input body rest are e in
     let len = ap length read.1 ∙ length-append (Frame body) rest in
     let shorter : length rest ≤ fuel = omega (arith, len, length-Frame body) in
-    let others = at_front fuel (again side) rest shorter (rest_bytes (Frame body) rest (subst AreBytes read.1 are)) (front side.later rest) refl in (
+    let others = at_front fuel (again side) rest shorter (rest_bytes (Frame body) rest (subst AreBytes read.1 are)) (front side.later max_body rest) refl in (
       body ∷ others.0,
       others.1,
       subst (λ (l : List ℕ). Cut side l (body ∷ others.0) others.1) (sym read.1) (cut_before side body rest others.0 others.1 read.0 others.2),
@@ -324,4 +391,4 @@ at_front (suc fuel) side input bound are (Body body rest) e =
 
 -- each stream has a cut
 pub has_cut : (side : Side) (input : List ℕ) → AreBytes input → HasCut side input
-has_cut side input are = at_front (length input) side input (omega arith) are (front side.first input) refl
+has_cut side input are = at_front (length input) side input (omega arith) are (front side.first max_body input) refl

@@ -13,7 +13,7 @@ use Rattle.std.specs.List.{flat_map}
 use Rattle.std.specs.Str.{IsAscii, str_to_ascii_lowercase}
 use Rattle.std.specs.Char.{to_ascii_lowercase}
 use Rattle.std.specs.Char.Escape.{encode_utf16}
-use Rattle.ig_base.specs.Hashes.{Java, java_step, units, sign_extended, hash_after, hash_factor}
+use Rattle.ig_base.specs.Hashes.{Java, java_step, units, sign_extension, hash_after, hash_factor}
 
 -- ---- texts
 
@@ -63,21 +63,21 @@ java-name name bytes at hash z same whole ascii is signed =
 
 pub hash_after-append : (hash : ℕ) (a b : List ℕ) → hash_after hash (a ++ b) ≡ hash_after (hash_after hash a) b
 unfolding hash_after
-hash_after-append hash a b = ap (fold java_step hash) (map-append sign_extended a b) ∙ fold-append java_step hash (map sign_extended a) (map sign_extended b)
+hash_after-append hash a b = ap (fold java_step hash) (map-append sign_extension a b) ∙ fold-append java_step hash (map sign_extension a) (map sign_extension b)
 
 -- the hash with no remainder taken
 exact : ℕ → List ℕ → ℕ
 exact hash [] = hash
-exact hash (b ∷ bytes) = exact (31 * hash + sign_extended b) bytes
+exact hash (b ∷ bytes) = exact (31 * hash + sign_extension b) bytes
 
 exact-scaled : (hash : ℕ) (bytes : List ℕ) → exact hash bytes ≡ hash * 31 ^ length bytes + exact 0 bytes
 unfolding exact
 exact-scaled hash [] = omega arith
 exact-scaled hash (b ∷ bytes) =
-    let here = exact-scaled (31 * hash + sign_extended b) bytes in
-    let from_zero = exact-scaled (31 * 0 + sign_extended b) bytes in
+    let here = exact-scaled (31 * hash + sign_extension b) bytes in
+    let from_zero = exact-scaled (31 * 0 + sign_extension b) bytes in
     let power = pow-suc 31 (length bytes) in
-    step hash (sign_extended b) (31 ^ length bytes) (31 ^ suc (length bytes)) (exact 0 bytes) (exact (31 * hash + sign_extended b) bytes) (exact (31 * 0 + sign_extended b) bytes) here from_zero power where
+    step hash (sign_extension b) (31 ^ length bytes) (31 ^ suc (length bytes)) (exact 0 bytes) (exact (31 * hash + sign_extension b) bytes) (exact (31 * 0 + sign_extension b) bytes) here from_zero power where
       step : (h s p q e here zero_here : ℕ) → here ≡ (31 * h + s) * p + e → zero_here ≡ (31 * 0 + s) * p + e → q ≡ p * 31 → here ≡ h * q + zero_here
       step h s p q e here zero_here a b c = omega (arith, a, b, ap (λ n. h * n) c)
 
@@ -93,12 +93,12 @@ hash_after-exact : (hash : ℕ) (bytes : List ℕ) → hash_after hash bytes % 2
 unfolding hash_after exact
 hash_after-exact hash [] = refl
 hash_after-exact hash (b ∷ bytes) =
-    hash_after-exact (java_step hash (sign_extended b)) bytes ∙ exact-mod (31 * hash + sign_extended b) bytes (2 ^ 32)
+    hash_after-exact (java_step hash (sign_extension b)) bytes ∙ exact-mod (31 * hash + sign_extension b) bytes (2 ^ 32)
 
 pub hash_after-in_range : (hash : ℕ) (bytes : List ℕ) → hash < 2 ^ 32 → hash_after hash bytes < 2 ^ 32
 unfolding hash_after
 hash_after-in_range hash [] small = small
-hash_after-in_range hash (b ∷ bytes) small = hash_after-in_range (java_step hash (sign_extended b)) bytes (omega arith)
+hash_after-in_range hash (b ∷ bytes) small = hash_after-in_range (java_step hash (sign_extension b)) bytes (omega arith)
 
 hash_after-mod : (hash : ℕ) (bytes : List ℕ) → hash < 2 ^ 32 → hash_after hash bytes ≡ exact hash bytes % 2 ^ 32
 hash_after-mod hash bytes small =

@@ -1,6 +1,6 @@
 -- Lemmas on numbers as little-endian bytes.
 use Rattle.std.proofs.Common.{◌≡◌, ℕ, ◌+◌, ◌<◌, ◌≤◌, ◌^◌, ℤ, List, ◌++◌, length, take, drop, None, Some, refl, sym, ap, ◌∙◌, lit<, arith, length-take-le, get_or-take, get_or-drop, inl, inr}
-use Rattle.std.proofs.Math.Facts.{Fits-of_z}
+use Rattle.std.proofs.Math.Facts.{Fits-of_z, sfits_to_z}
 use Rattle.std.proofs.lemmas.Bool.{le-ltb, lt-ltb, cond-true, cond-false, cases_lt}
 use Rattle.std.proofs.lemmas.Int.{to_z-of_z, of_z-to_z}
 use Rattle.std.proofs.lemmas.List.{length-take, length-drop, get_or_past}
@@ -70,6 +70,12 @@ LE-number_at_32 z bytes are h =
     ap (λ y. to_le_bytes w32 (cast_unsigned w32 y)) same
     ∙ ap (to_le_bytes w32) (of_z-to_z w32 read small)
     ∙ le_bytes_4 (take 4 bytes) read (length-take-le 4 bytes long) four refl
+
+-- a number that is read fits in its 32 bits
+pub number_at-fits : (bytes : List ℕ) → AreBytes bytes → 4 ≤ length bytes → FitsSigned w32 (cast_signed w32 (from_le_bytes w32 (take 4 bytes)))
+number_at-fits bytes are long =
+    let four = take-bytes 4 bytes are in
+    sfits_to_z {w = w32} (record { fits = omega (arith, four 0, four 1, four 2, four 3) })
 
 -- the bytes of a number, at an offset, are read as that number
 reads : (w : Width) (z : ℤ) (bytes : List ℕ) (at : ℕ) → ((n : ℕ) → n < 2 ^ bits w → from_le_bytes w (to_le_bytes w n) ≡ n)

@@ -28,13 +28,13 @@ pub record IsFirstNotAscii (at : ℕ) (bytes : List ℕ) : Type 0 where
 
 -- ---- of a complex object's bytes
 
--- a byte as the signed number that it is, in 32 bits of two's complement
-abbrev pub sign_extended : ℕ → ℕ
-sign_extended byte = cast_unsigned w32 (cast_signed w8 byte)
+-- a byte as a signed number, in 32 bits of two's complement
+abbrev pub sign_extension : ℕ → ℕ
+sign_extension byte = cast_unsigned w32 (cast_signed w8 byte)
 
 -- the hash after these bytes, where it was `hash` before them
 unfoldable pub hash_after : ℕ → List ℕ → ℕ
-hash_after hash bytes = fold java_step hash (map sign_extended bytes)
+hash_after hash bytes = fold java_step hash (map sign_extension bytes)
 
 -- the hash of a complex object's fields: from 1, over their bytes
 abbrev pub BytesHash : List ℕ → ℕ

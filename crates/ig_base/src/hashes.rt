@@ -5,7 +5,7 @@ ghost use Rattle.std.specs.Int.{w32, cast_signed};
 ghost use Rattle.std.specs.Char.Escape.{encode_utf16};
 ghost use Rattle.std.specs.Str.{IsAscii, str_to_ascii_lowercase};
 ghost use Rattle.ig_base.specs.Numbers.{LE};
-ghost use Rattle.ig_base.specs.Hashes.{Java, java_step, units, IsFirstNotAscii, sign_extended, hash_after, BytesHash, hash_factor, fnv_step, Fnv};
+ghost use Rattle.ig_base.specs.Hashes.{Java, java_step, units, IsFirstNotAscii, sign_extension, hash_after, BytesHash, hash_factor, fnv_step, Fnv};
 
 use std::fmt;
 
@@ -68,7 +68,8 @@ impl std::error::Error for NotAscii {}
 /// Only a name of ASCII has one. Takes no memory.
 pub fn name_id(name: &str) -> Result<i32, NotAscii>
     ensures ascii { IfOk result (λ id. IsAscii name.now) }
-    ensures hash { IfOk result (λ id. id ≡ cast_signed w32 (Java (units (str_to_ascii_lowercase name.now)))) }
+    ensures hash { IfOk result (λ id.
+        id ≡ cast_signed w32 (Java (units (str_to_ascii_lowercase name.now)))) }
     ensures refused { IfErr result (λ fault. IsFirstNotAscii fault.at name.now) }
 {
     let bytes = name.as_bytes();
@@ -85,7 +86,7 @@ pub fn name_id(name: &str) -> Result<i32, NotAscii>
 
 /// The hash after one more byte, a signed number.
 fn byte_after(hash: u32, byte: u8) -> u32
-    ensures { result ≡ java_step hash (sign_extended byte) }
+    ensures { result ≡ java_step hash (sign_extension byte) }
 {
     unit_after(hash, i32::from(byte.cast_signed()).cast_unsigned())
 }
@@ -107,12 +108,14 @@ pub fn bytes_hash(bytes: &[u8]) -> i32
 /// that the rest needs. It is the hash before, times the factor of the bytes, plus their hash from 0;
 /// so the hash of bytes that were cut anywhere is made of the hashes of the pieces.
 pub fn hash_composes()
-    ensures appended { (hash : ℕ) (a b : List ℕ) → hash_after hash (a ++ b) ≡ hash_after (hash_after hash a) b }
+    ensures appended { (hash : ℕ) (a b : List ℕ)
+        → hash_after hash (a ++ b) ≡ hash_after (hash_after hash a) b }
     ensures scaled { (hash : ℕ) (bytes : List ℕ) → hash < 2 ^ 32
         → hash_after hash bytes ≡ (hash * hash_factor bytes + hash_after 0 bytes) % 2 ^ 32 }
     ensures factors { (a b : List ℕ)
         → hash_factor (a ++ b) ≡ (hash_factor a * hash_factor b) % 2 ^ 32 }
-    ensures in_range { (hash : ℕ) (bytes : List ℕ) → hash < 2 ^ 32 → hash_after hash bytes < 2 ^ 32 }
+    ensures in_range { (hash : ℕ) (bytes : List ℕ)
+        → hash < 2 ^ 32 → hash_after hash bytes < 2 ^ 32 }
 {}
 
 /// The hash of a schema after one more byte.

@@ -119,7 +119,7 @@ module _ {C : Type 0} (stands : C → Plain → List Entry → Type 0) (seat : �
         let on = repacked old new input (output ++ since.out) (results ++ since.ran) (sym st.step.1) (sym st.step.2) (since.continues input output results s) in
         record {
           stands = on;
-          part = ap (λ b. frames.front (least_of b) new.frames) st.step.2 ∙ ap (frames.front (least_of old.is_open)) st.step.1 ∙ st.step.3;
+          part = ap (λ b. frames.front (least_of b) frames.max_body new.frames) st.step.2 ∙ ap (frames.front (least_of old.is_open) frames.max_body) st.step.1 ∙ st.step.3;
         };
   }
 
@@ -135,8 +135,8 @@ module _ {C : Type 0} (stands : C → Plain → List Entry → Type 0) (seat : �
     continues = λ input output results counts s.
         let on = repacked old new input (output ++ since.out) (results ++ since.ran) (sym st.step.1) (sym st.step.2) (since.continues input output results s) in
         let whole = ap length on.begins.whole ∙ length-append (flat_map frames.Frame on.bodies) new.frames in
-        let found = ap (λ n. frames.front n new.frames) (least_same new.is_open on.bodies on.stage)
-        ∙ ap (λ b. frames.front (least_of b) new.frames) st.step.2 ∙ ap (frames.front (least_of old.is_open)) st.step.1 ∙ st.step.3 in
+        let found = ap (λ n. frames.front n frames.max_body new.frames) (least_same new.is_open on.bodies on.stage)
+        ∙ ap (λ b. frames.front (least_of b) frames.max_body new.frames) st.step.2 ∙ ap (frames.front (least_of old.is_open) frames.max_body) st.step.1 ∙ st.step.3 in
         ends_whole new (ends.BadFrame place len) input (output ++ since.out) (results ++ since.ran) on
         (goes new.is_open on.bodies on.stage, omega (arith, at, counts, whole), found) (λ fs o e. e);
   }
@@ -213,5 +213,5 @@ at_step stands seat seat' caller caller' old new step step' e f st =
 pub steps_shorter : {C : Type 0} (stands : C → Plain → List Entry → Type 0) (seat : ℕ) (caller caller' : C) (old new : Session) → Steps stands seat caller caller' old new (Ok steps.Out)
     → length new.frames < length old.frames
 steps_shorter stands seat caller caller' old new st =
-    let inside = front-inside (least_of old.is_open) old.frames st.step.0 new.frames st.step.1.found in
+    let inside = front-inside (least_of old.is_open) frames.max_body old.frames st.step.0 new.frames st.step.1.found in
     omega (arith, inside.0, ap length inside.1, length-drop (4 + length st.step.0) old.frames)

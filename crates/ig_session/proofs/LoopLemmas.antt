@@ -1,7 +1,7 @@
 -- The loop of a session.
 use Rattle.std.proofs.Common.{slice_index, ◌≡◌, ℕ, ◌<◌, ◌≤◌, Bool, true, false, List, [], ◌++◌, Ok, Err, refl, sym, ap, ◌∙◌, subst, arith}
 use Rattle.ig_base.specs.Frames as frames
-use Rattle.ig_base.specs.Frames.{client, front}
+use Rattle.ig_base.specs.Frames.{client, max_body, front}
 use Rattle.ig_base.proofs.FrameLemmas.{Begins-start}
 use Rattle.ig_link.specs.States.{SourceState, SinkState}
 use Rattle.ig_link.proofs.StateLemmas.{SourceAdvances-nothing, SourceAdvances-then, SinkAdvances-nothing, SinkAdvances-then, Rose-after}
@@ -30,7 +30,7 @@ nothing_ran = record {
   shows = all_shown [] [] refl;
 }
 
-first_part : front 8 [] ≡ frames.Incomplete 4
+first_part : front 8 max_body [] ≡ frames.Incomplete 4
 unfolding front
 first_part = refl
 
@@ -72,7 +72,7 @@ module _ {C : Type 0} (stands : C → Plain → List Entry → Type 0) (seat : �
     no_write_fault = refl;
     waits = record {
       stands = first_stands state none closed;
-      part = ap (λ b. front (least_of b) state.frames) closed ∙ ap (front 8) none ∙ first_part;
+      part = ap (λ b. front (least_of b) max_body state.frames) closed ∙ ap (front 8 max_body) none ∙ first_part;
     };
   }
 

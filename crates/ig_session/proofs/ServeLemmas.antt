@@ -73,7 +73,7 @@ read_more (greeting ∷ bodies) true body frame results ran is e answers = (
 pub reads : (state : Session) (input output : List ℕ) (results ran : List Ran) (body after frame : List ℕ) → (s : Stands state input output results) → ReadsBody state body after ran frame
     → Read input output results ran s.bodies state.is_open body after frame
 reads state input output results ran body after frame s r =
-    let whole = front-reads (least_of state.is_open) state.frames body after s.are_bytes r.found in
+    let whole = front-reads (least_of state.is_open) frames.max_body state.frames body after s.are_bytes r.found in
     let least : IsBody (least_after client s.bodies) body = subst (λ (n : ℕ). IsBody n body) (sym (least_same state.is_open s.bodies s.stage)) whole.0 in
     let more = read_more s.bodies state.is_open body frame results ran s.stage s.handed_out r.answers in
     record {
@@ -152,10 +152,10 @@ refuses old new input output results ran body fault s r closed other is =
 -- ---- the session ends between two frames
 
 pub waiting : (state : Session) (input output : List ℕ) (results : List Ran) (missing : ℕ) → (s : Stands state input output results)
-    → frames.front (least_of state.is_open) state.frames ≡ frames.Incomplete missing → IsWaiting s.bodies state.frames missing
+    → frames.front (least_of state.is_open) frames.max_body state.frames ≡ frames.Incomplete missing → IsWaiting s.bodies state.frames missing
 waiting state input output results missing s part = record {
   going = goes state.is_open s.bodies s.stage;
-  part = ap (λ n. frames.front n state.frames) (least_same state.is_open s.bodies s.stage) ∙ part;
+  part = ap (λ n. frames.front n frames.max_body state.frames) (least_same state.is_open s.bodies s.stage) ∙ part;
 }
 
 pub ends_whole : (state : Session) (end : SessionEnd) (input output : List ℕ) (results : List Ran) → (s : Stands state input output results) → EndsBy end input s.bodies state.frames

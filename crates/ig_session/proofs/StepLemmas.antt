@@ -19,7 +19,7 @@ use Rattle.ig_session.proofs.AnswerLemmas.{StandsOn-nothing}
 
 module _ {C : Type 0} (stands : C → Plain → List Entry → Type 0) (seat : ℕ) (caller caller' : C) (old new : Session) (body : List ℕ) where
   -- a request was read
-  open_reads : (asked : Asked) (result : Result (Unit {0}) NoMemory) (frame : List ℕ) → old.is_open ≡ true → frames.front (least_of old.is_open) old.frames ≡ frames.Body body new.frames
+  open_reads : (asked : Asked) (result : Result (Unit {0}) NoMemory) (frame : List ℕ) → old.is_open ≡ true → frames.front (least_of old.is_open) frames.max_body old.frames ≡ frames.Body body new.frames
       → asked ≡ ask_of body → (a : Answers stands seat caller caller' asked result [] new.reply) → a.frame ≡ frame → ReadsBody old body new.frames a.ran frame
   open_reads asked result frame was found is a same = record {
     found = found;
@@ -30,7 +30,7 @@ module _ {C : Type 0} (stands : C → Plain → List Entry → Type 0) (seat : �
   }
 
   pub open_ok : (asked : Asked) (result : Result (Unit {0}) NoMemory) (u : Unit {0}) → old.is_open ≡ true → new.is_open ≡ old.is_open
-      → frames.front (least_of old.is_open) old.frames ≡ frames.Body body new.frames → asked ≡ ask_of body → Answers stands seat caller caller' asked result [] new.reply → result ≡ Ok u
+      → frames.front (least_of old.is_open) frames.max_body old.frames ≡ frames.Body body new.frames → asked ≡ ask_of body → Answers stands seat caller caller' asked result [] new.reply → result ≡ Ok u
       → Steps stands seat caller caller' old new (Ok steps.Out)
   open_ok asked result u was stays found is a ok =
       let told : new.reply ≡ a.frame = subst (λ (r : Result (Unit {0}) NoMemory). OnOk r (new.reply ≡ [] ++ a.frame)) ok a.written in
@@ -41,7 +41,7 @@ module _ {C : Type 0} (stands : C → Plain → List Entry → Type 0) (seat : �
       }
 
   pub open_err : (asked : Asked) (result : Result (Unit {0}) NoMemory) (e : NoMemory) → old.is_open ≡ true → new.is_open ≡ old.is_open
-      → frames.front (least_of old.is_open) old.frames ≡ frames.Body body new.frames → asked ≡ ask_of body → Answers stands seat caller caller' asked result [] new.reply
+      → frames.front (least_of old.is_open) frames.max_body old.frames ≡ frames.Body body new.frames → asked ≡ ask_of body → Answers stands seat caller caller' asked result [] new.reply
       → Steps stands seat caller caller' old new (Err e)
   open_err asked result e was stays found is a = record {
     ran = a.ran;
@@ -51,10 +51,10 @@ module _ {C : Type 0} (stands : C → Plain → List Entry → Type 0) (seat : �
 
 module _ {C : Type 0} (stands : C → Plain → List Entry → Type 0) (seat : ℕ) (caller : C) (old new : Session) (body : List ℕ) where
   -- the hello was read
-  hello_reads : (frame : List ℕ) → old.is_open ≡ false → frames.front (least_of old.is_open) old.frames ≡ frames.Body body new.frames → frame ≡ hello_frame body → ReadsBody old body new.frames [] frame
+  hello_reads : (frame : List ℕ) → old.is_open ≡ false → frames.front (least_of old.is_open) frames.max_body old.frames ≡ frames.Body body new.frames → frame ≡ hello_frame body → ReadsBody old body new.frames [] frame
   hello_reads frame was found is = record { found = found; answers = subst (λ (b : Bool). AnswersBody b body [] frame) (sym was) (refl, is) }
 
-  pub hello_accepted : old.is_open ≡ false → frames.front (least_of old.is_open) old.frames ≡ frames.Body body new.frames → new.reply ≡ hello_frame body → new.is_open ≡ is_accepted body
+  pub hello_accepted : old.is_open ≡ false → frames.front (least_of old.is_open) frames.max_body old.frames ≡ frames.Body body new.frames → new.reply ≡ hello_frame body → new.is_open ≡ is_accepted body
       → is_accepted body ≡ true → Steps stands seat caller caller old new (Ok steps.Out)
   hello_accepted was found told opens fits = record {
     ran = [];
@@ -62,7 +62,7 @@ module _ {C : Type 0} (stands : C → Plain → List Entry → Type 0) (seat : �
     step = (body, hello_reads new.reply was found told, ap (λ b. accepts b body) was ∙ fits, opens ∙ fits);
   }
 
-  pub hello_refused : (fault : HelloFault) → old.is_open ≡ false → frames.front (least_of old.is_open) old.frames ≡ frames.Body body new.frames → new.reply ≡ hello_frame body → new.is_open ≡ is_accepted body
+  pub hello_refused : (fault : HelloFault) → old.is_open ≡ false → frames.front (least_of old.is_open) frames.max_body old.frames ≡ frames.Body body new.frames → new.reply ≡ hello_frame body → new.is_open ≡ is_accepted body
       → is_accepted body ≡ false → fault ≡ Version (asked_version body) → Steps stands seat caller caller old new (Ok (steps.Refused fault))
   hello_refused fault was found told opens other is = record {
     ran = [];
@@ -70,7 +70,7 @@ module _ {C : Type 0} (stands : C → Plain → List Entry → Type 0) (seat : �
     step = (body, hello_reads new.reply was found told, was, other, is, opens ∙ other);
   }
 
-  pub hello_err : (e : NoMemory) → old.is_open ≡ false → frames.front (least_of old.is_open) old.frames ≡ frames.Body body new.frames → new.is_open ≡ is_accepted body
+  pub hello_err : (e : NoMemory) → old.is_open ≡ false → frames.front (least_of old.is_open) frames.max_body old.frames ≡ frames.Body body new.frames → new.is_open ≡ is_accepted body
       → Steps stands seat caller caller old new (Err e)
   hello_err e was found opens = record {
     ran = [];

@@ -1,7 +1,7 @@
 -- How a session's input, output, calls and end belong together.
 use Rattle.std.specs.Prelude.{◌≡◌, ◌≢◌, ℕ, ◌+◌, ◌<◌, ◌≤◌, ◌^◌, true, false, List, [], ◌∷◌, ◌++◌, length}
 use Rattle.std.specs.List.{flat_map}
-use Rattle.ig_base.specs.Frames.{client, least_after, Begins, front, Incomplete, Bad}
+use Rattle.ig_base.specs.Frames.{client, max_body, least_after, Begins, front, Incomplete, Bad}
 use Rattle.ig_session.specs.Histories.{Entry}
 use Rattle.ig_session.specs.Hellos.{is_accepted, asked_version}
 use Rattle.ig_session.specs.Deals.{Ran, handed, gots, entries_of, asks, calls, out_frames}
@@ -36,14 +36,14 @@ byte_limit = 2 ^ 48
 -- no whole frame is left, and this many more bytes complete the next length or frame
 pub record IsWaiting (bodies : List (List ℕ)) (after : List ℕ) (missing : ℕ) : Type 0 where
   pub going : IsGoing bodies
-  pub part : front (least_after client bodies) after ≡ Incomplete missing
+  pub part : front (least_after client bodies) max_body after ≡ Incomplete missing
 
 -- Why a session ended, by its input, the bodies that it read, and the bytes of the input after them.
 abbrev pub EndsBy : SessionEnd → List ℕ → List (List ℕ) → List ℕ → Type 0
 EndsBy ends.Ended input bodies after = IsOpen bodies × (after ≡ []) × (length input < byte_limit)
 EndsBy (ends.Truncated missing) input bodies after = IsWaiting bodies after missing × (IsOpen bodies → after ≢ []) × (length input < byte_limit)
 EndsBy (ends.BadFrame place len) input bodies after =
-    IsGoing bodies × (place + length after ≡ length input) × (front (least_after client bodies) after ≡ Bad len)
+    IsGoing bodies × (place + length after ≡ length input) × (front (least_after client bodies) max_body after ≡ Bad len)
 EndsBy (ends.HelloRefused fault) input bodies after = IsRefused bodies (ends.HelloRefused fault)
 EndsBy ends.ReadFault input bodies after = (length input < byte_limit) × (missing : ℕ) × IsWaiting bodies after missing
 EndsBy ends.WriteFault input bodies after = Unit {0}

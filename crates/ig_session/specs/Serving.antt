@@ -37,7 +37,7 @@ pub record WriteHasFailed (old new : SinkState) : Type 0 where
 -- a session that has answered all whole frames, and needs this many more bytes to complete the next length or frame
 pub record Waits (state : Session) (input output : List ℕ) (results : List Ran) (missing : ℕ) : Type 0 where
   pub stands : Stands state input output results
-  pub part : frames.front (least_of state.is_open) state.frames ≡ frames.Incomplete missing
+  pub part : frames.front (least_of state.is_open) frames.max_body state.frames ≡ frames.Incomplete missing
 
 -- the session after it answered all whole frames, or after the end that came first
 abbrev pub AfterAnswers : Result ℕ SessionEnd → Session → List ℕ → List ℕ → List Ran → Type 0

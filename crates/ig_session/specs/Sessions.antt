@@ -26,7 +26,7 @@ pub record Stands (state : Session) (input output : List ℕ) (results : List Ra
 
 -- the next body was read and answered
 pub record ReadsBody (old : Session) (body after : List ℕ) (ran : List Ran) (frame : List ℕ) : Type 0 where
-  pub found : frames.front (least_of old.is_open) old.frames ≡ frames.Body body after
+  pub found : frames.front (least_of old.is_open) frames.max_body old.frames ≡ frames.Body body after
   pub answers : AnswersBody old.is_open body ran frame
 
 -- nothing was read, and no call was run
@@ -38,9 +38,9 @@ pub record IsUnread (old new : Session) (ran : List Ran) : Type 0 where
 -- What a step does. When out of memory, either nothing was read, or a body was read and its reply is missing.
 abbrev pub StepsTo : Result Step NoMemory → Session → Session → List Ran → Type 0
 StepsTo (Ok (steps.More missing)) old new ran =
-    (ran ≡ []) × (new.frames ≡ old.frames) × (new.is_open ≡ old.is_open) × (frames.front (least_of old.is_open) old.frames ≡ frames.Incomplete missing)
+    (ran ≡ []) × (new.frames ≡ old.frames) × (new.is_open ≡ old.is_open) × (frames.front (least_of old.is_open) frames.max_body old.frames ≡ frames.Incomplete missing)
 StepsTo (Ok (steps.Bad len)) old new ran =
-    (ran ≡ []) × (new.frames ≡ old.frames) × (new.is_open ≡ old.is_open) × (frames.front (least_of old.is_open) old.frames ≡ frames.Bad len)
+    (ran ≡ []) × (new.frames ≡ old.frames) × (new.is_open ≡ old.is_open) × (frames.front (least_of old.is_open) frames.max_body old.frames ≡ frames.Bad len)
 StepsTo (Ok steps.Out) old new ran =
     (body : List ℕ) × ReadsBody old body new.frames ran new.reply × (accepts old.is_open body ≡ true) × (new.is_open ≡ true)
 StepsTo (Ok (steps.Refused fault)) old new ran =

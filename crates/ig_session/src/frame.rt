@@ -3,7 +3,7 @@
 
 ghost use Rattle.std.specs.Prelude.{◌≡◌, ◌≤◌, ◌+◌, ◌++◌, [], drop, length, OnOk, OnErr};
 ghost use Rattle.ig_base.specs.Numbers.{AreBytes};
-ghost use Rattle.ig_base.specs.Frames.{front};
+ghost use Rattle.ig_base.specs.Frames.{front, max_body};
 ghost use Rattle.ig_session.specs.Looks.{LooksAs, len_in_range};
 
 use ig_base::{NoMemory, get_i32};
@@ -74,7 +74,7 @@ impl Frames {
 
     /// What the bytes begin with, where a body has at least `least` bytes.
     pub fn look(&self, least: usize) -> Look<'_>
-        ensures { LooksAs result (front least self.now) }
+        ensures { LooksAs result (front least max_body self.now) }
     {
         look_at(&self.bytes[self.at..], least)
     }
@@ -102,7 +102,7 @@ fn body_len(length: i32, least: usize) -> Option<usize>
 /// What bytes begin with, where a body has at least `least` bytes.
 #[tactic(auto, unfolding(ig_base::specs::Frames::front))]
 fn look_at(bytes: &[u8], least: usize) -> Look<'_>
-    ensures { LooksAs result (front least bytes.now) }
+    ensures { LooksAs result (front least max_body bytes.now) }
 {
     let Some(length) = get_i32(bytes, 0) else {
         return Look::Part(4 - bytes.len());

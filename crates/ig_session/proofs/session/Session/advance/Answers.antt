@@ -24,7 +24,7 @@ pass-requires-2 g c = inside c.least_len.result c.args.self.now.frames c.in-Body
 
 pub returns-in-Ok-clause-steps : goal.returns-in-Ok-clause-steps
 returns-in-Ok-clause-steps g c =
-    let found = sym (ap (λ n. frames.front n c.args.self.now.frames) c.least_len.ensures)
+    let found = sym (ap (λ n. frames.front n frames.max_body c.args.self.now.frames) c.least_len.ensures)
     ∙ passed c.least_len.result c.args.self.now.frames c.in-Body.body.now c.pass.new.self c.in-Body.ensures.0 c.in-Body.ensures.1 c.pass.ensures in
     let answers = subst (λ (l : List ℕ). Answers g.C.Caller.stands (g.C.Caller.seat c.args.caller.now) c.args.caller.now c.answer_to-answered.new.caller c.in_ok-asked.asked c.answer_to-answered.result l c.answer_to-answered.new.reply)
     c.clear.ensures c.answer_to-answered.ensures.answers in
@@ -34,7 +34,7 @@ returns-in-Ok-clause-steps g c =
 
 pub returns-in-Err-clause-steps : goal.returns-in-Err-clause-steps
 returns-in-Err-clause-steps g c =
-    let found = sym (ap (λ n. frames.front n c.args.self.now.frames) c.least_len.ensures)
+    let found = sym (ap (λ n. frames.front n frames.max_body c.args.self.now.frames) c.least_len.ensures)
     ∙ passed c.least_len.result c.args.self.now.frames c.in-Body.body.now c.pass.new.self c.in-Body.ensures.0 c.in-Body.ensures.1 c.pass.ensures in
     let answers = subst (λ (l : List ℕ). Answers g.C.Caller.stands (g.C.Caller.seat c.args.caller.now) c.args.caller.now c.answer_to-answered.new.caller c.in_ok-asked.asked c.answer_to-answered.result l c.answer_to-answered.new.reply)
     c.clear.ensures c.answer_to-answered.ensures.answers in
@@ -44,7 +44,7 @@ returns-in-Err-clause-steps g c =
 
 pub returns-in-Err-greeted-clause-steps : goal.returns-in-Err-greeted-clause-steps
 returns-in-Err-greeted-clause-steps g c =
-    let found = sym (ap (λ n. frames.front n c.args.self.now.frames) c.least_len.ensures)
+    let found = sym (ap (λ n. frames.front n frames.max_body c.args.self.now.frames) c.least_len.ensures)
     ∙ passed c.least_len.result c.args.self.now.frames c.in-Body.body.now c.pass-2.new.self c.in-Body.ensures.0 c.in-Body.ensures.1 c.pass-2.ensures in
     hello_err g.C.Caller.stands (g.C.Caller.seat c.args.caller.now) c.args.caller.now c.args.self.now
     (record { frames = c.pass-2.new.self; is_open = c.is_hello-is_accepted.result; reply = c.put_hello_reply-greeted.new.out }) c.in-Body.body.now
@@ -52,7 +52,7 @@ returns-in-Err-greeted-clause-steps g c =
 
 pub returns-in-Ok-greeted-clause-steps : goal.returns-in-Ok-greeted-clause-steps
 returns-in-Ok-greeted-clause-steps g c =
-    let found = sym (ap (λ n. frames.front n c.args.self.now.frames) c.least_len.ensures)
+    let found = sym (ap (λ n. frames.front n frames.max_body c.args.self.now.frames) c.least_len.ensures)
     ∙ passed c.least_len.result c.args.self.now.frames c.in-Body.body.now c.pass-2.new.self c.in-Body.ensures.0 c.in-Body.ensures.1 c.pass-2.ensures in
     let accepted = sym c.is_hello-is_accepted.ensures ∙ c.if-is_accepted.true in
     let told = c.in-Ok-greeted.ensures ∙ ap (λ (l : List ℕ). l ++ frames.Frame (cond c.is_hello-is_accepted.result accepting refusing)) c.clear.ensures ∙ ap (λ b. frames.Frame (cond b accepting refusing)) c.is_hello-is_accepted.ensures in
@@ -62,7 +62,7 @@ returns-in-Ok-greeted-clause-steps g c =
 
 pub returns-in-Ok-2-clause-steps : goal.returns-in-Ok-2-clause-steps
 returns-in-Ok-2-clause-steps g c =
-    let found = sym (ap (λ n. frames.front n c.args.self.now.frames) c.least_len.ensures)
+    let found = sym (ap (λ n. frames.front n frames.max_body c.args.self.now.frames) c.least_len.ensures)
     ∙ passed c.least_len.result c.args.self.now.frames c.in-Body.body.now c.pass-2.new.self c.in-Body.ensures.0 c.in-Body.ensures.1 c.pass-2.ensures in
     let told = c.in-Ok-2.ensures ∙ ap (λ (l : List ℕ). l ++ frames.Frame (cond c.is_hello-is_accepted.result accepting refusing)) c.clear.ensures ∙ ap (λ b. frames.Frame (cond b accepting refusing)) c.is_hello-is_accepted.ensures in
     hello_refused g.C.Caller.stands (g.C.Caller.seat c.args.caller.now) c.args.caller.now c.args.self.now
