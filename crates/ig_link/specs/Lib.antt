@@ -1,6 +1,10 @@
 pub mod States
 pub mod ReadsAs
 pub mod WritesAs
+pub mod ReadsNowAs
+pub mod Shows
+pub mod AcceptsAs
 pub mod Pipes
 pub mod Script
+pub mod ScriptOffset
 pub mod MemLink

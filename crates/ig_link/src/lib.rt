@@ -8,12 +8,16 @@
 //! are a source and a sink over a reader and a writer of std. [`send_all`] writes a whole piece.
 #![tactic(auto)]
 
+mod door;
 mod ends;
+mod link;
 mod mem_link;
 mod pipes;
 mod send;
 
+pub use door::{Door, Opened};
 pub use ends::{Duplex, Gave, Sink, Source, Take};
+pub use link::{Left, Link, Retired, TakeNow};
 pub use mem_link::{MemLink, ReadStep, WriteStep};
 pub use pipes::{PipeIn, PipeOut};
 pub use send::{SendFault, send_all};
