@@ -126,8 +126,8 @@ reads_bytes count waits before after bytes n buf p size copied = subst (λ (s : 
 
 -- ---- what the script does is what the traits say
 
-counted_rises : (n : ℕ) → n < 2 ^ 64 → Rose n (next_count n)
-counted_rises n fits = elim (cases_lt n (2 ^ 64 - 1)) [
+pub next_count-rises : (n : ℕ) → n < 2 ^ 64 → Rose n (next_count n)
+next_count-rises n fits = elim (cases_lt n (2 ^ 64 - 1)) [
   | inl below ↦ inl (omega arith)
   | inr top ↦ inr (omega arith)
 ]
@@ -137,14 +137,14 @@ module _ (waits : Bool) (old new : Script) (buf : List ℕ) where
   is_open : (answer : TakeNow) → (answer ≡ now.End → ⊥) → ScriptReads waits answer old new buf → old.ended ≡ false
   is_open answer other step = false_from_ne_true old.ended (λ ended. other (step.stays ended).0)
 
-  holds_on : (s : List ReadStep) → after_skipped old.count waits old.reads ≡ s → list_any may_stop s ≡ list_any may_stop new.reads → not (list_any may_stop old.reads) ≡ true
+  holds_on : (s : List ReadStep) → after_skipped old.written_count waits old.reads ≡ s → list_any may_stop s ≡ list_any may_stop new.reads → not (list_any may_stop old.reads) ≡ true
       → not (list_any may_stop new.reads) ≡ true
   holds_on s e same h =
       let none : list_any may_stop old.reads ≡ false = false_from_ne_true _ (λ yes. let no = ap not yes in cc) in
-      let later = holds-after_skipped old.count waits old.reads none in
+      let later = holds-after_skipped old.written_count waits old.reads none in
       ap not (sym same ∙ ap (list_any may_stop) (sym e) ∙ later)
 
-  read_some : (n : ℕ) (s : List ReadStep) → after_skipped old.count waits old.reads ≡ s → 0 < length buf → NextRead waits s (now.Bytes n) new.reads buf → ScriptReads waits (now.Bytes n) old new buf
+  read_some : (n : ℕ) (s : List ReadStep) → after_skipped old.written_count waits old.reads ≡ s → 0 < length buf → NextRead waits s (now.Bytes n) new.reads buf → ScriptReads waits (now.Bytes n) old new buf
       → ReadSome n (script_source old) (script_source new) buf
   read_some n [] e room to step = let wrong = to.0 in cc
   read_some n (reads.Fault ∷ steps) e room to step = let wrong = to.0 in cc
@@ -155,12 +155,12 @@ module _ (waits : Bool) (old new : Script) (buf : List ℕ) where
       let size : n ≡ min (length bytes) (length buf) = let same = to.0 in cc in
       let after : new.reads ≡ reads.Bytes (drop n bytes) ∷ steps = to.2 ∙ ap (λ k. reads.Bytes (drop k bytes) ∷ steps) (sym size) in
       let copied : take n buf ≡ take n bytes = subst (λ (k : ℕ). take k buf ≡ take k bytes) (sym size) to.1 in
-      let all = sym (bytes_of-after_skipped old.count waits old.reads) ∙ ap bytes_of e in
+      let all = sym (bytes_of-after_skipped old.written_count waits old.reads) ∙ ap bytes_of e in
       let whole : bytes_of old.reads ≡ take n buf ++ bytes_of new.reads =
       all ∙ ap (λ l. l ++ bytes_of steps) (sym (take-append-drop n bytes)) ∙ append_assoc (take n bytes) (drop n bytes) (bytes_of steps)
       ∙ ap (λ l. l ++ (drop n bytes ++ bytes_of steps)) (sym copied) ∙ ap (λ s. take n buf ++ bytes_of s) (sym after) in
       record {
-        some = omega (arith, size, first_bytes-some old.count waits bytes (not_skipped old.count waits old.reads (reads.Bytes bytes) steps e), room);
+        some = omega (arith, size, first_bytes-some old.written_count waits bytes (not_skipped old.written_count waits old.reads (reads.Bytes bytes) steps e), room);
         fits = omega (arith, size);
         advances = record {
           taken = step.taken;
@@ -175,7 +175,7 @@ module _ (waits : Bool) (old new : Script) (buf : List ℕ) where
         pauses = step.counts.1;
       }
 
-  read_pause : (s : List ReadStep) → after_skipped old.count waits old.reads ≡ s → NextRead waits s now.NotYet new.reads buf → ScriptReads waits now.NotYet old new buf
+  read_pause : (s : List ReadStep) → after_skipped old.written_count waits old.reads ≡ s → NextRead waits s now.NotYet new.reads buf → ScriptReads waits now.NotYet old new buf
       → ReadPause (script_source old) (script_source new)
   read_pause [] e to step = let wrong = to.0 in cc
   read_pause (reads.Fault ∷ steps) e to step = let wrong = to.0 in cc
@@ -183,7 +183,7 @@ module _ (waits : Bool) (old new : Script) (buf : List ℕ) where
   read_pause (reads.Pause ∷ steps) e to step = record {
     advances = record {
       taken = step.taken;
-      left = sym (bytes_of-after_skipped old.count waits old.reads) ∙ ap bytes_of e ∙ ap bytes_of (sym to.1);
+      left = sym (bytes_of-after_skipped old.written_count waits old.reads) ∙ ap bytes_of e ∙ ap bytes_of (sym to.1);
       faults = omega (arith, step.counts.0);
       pauses = omega (arith, step.counts.1, step.in_range.1);
       holds = holds_on (reads.Pause ∷ steps) e (ap (list_any may_stop) (sym to.1));
@@ -191,12 +191,12 @@ module _ (waits : Bool) (old new : Script) (buf : List ℕ) where
     was_open = is_open now.NotYet (λ wrong. cc) step;
     is_open = step.counts.2;
     counts = step.counts.0;
-    rose = subst (Rose old.pauses) (sym step.counts.1) (counted_rises old.pauses step.in_range.1);
+    rose = subst (Rose old.pauses) (sym step.counts.1) (next_count-rises old.pauses step.in_range.1);
   }
   read_pause (reads.AfterWritten k ∷ steps) e to step = record {
     advances = record {
       taken = step.taken;
-      left = sym (bytes_of-after_skipped old.count waits old.reads) ∙ ap bytes_of e ∙ ap bytes_of (sym to.1);
+      left = sym (bytes_of-after_skipped old.written_count waits old.reads) ∙ ap bytes_of e ∙ ap bytes_of (sym to.1);
       faults = omega (arith, step.counts.0);
       pauses = omega (arith, step.counts.1, step.in_range.1);
       holds = holds_on (reads.AfterWritten k ∷ steps) e (ap (list_any may_stop) (sym to.1));
@@ -204,10 +204,10 @@ module _ (waits : Bool) (old new : Script) (buf : List ℕ) where
     was_open = is_open now.NotYet (λ wrong. cc) step;
     is_open = step.counts.2;
     counts = step.counts.0;
-    rose = subst (Rose old.pauses) (sym step.counts.1) (counted_rises old.pauses step.in_range.1);
+    rose = subst (Rose old.pauses) (sym step.counts.1) (next_count-rises old.pauses step.in_range.1);
   }
 
-  read_fault : (s : List ReadStep) → after_skipped old.count waits old.reads ≡ s → NextRead waits s now.Failed new.reads buf → ScriptReads waits now.Failed old new buf
+  read_fault : (s : List ReadStep) → after_skipped old.written_count waits old.reads ≡ s → NextRead waits s now.Failed new.reads buf → ScriptReads waits now.Failed old new buf
       → ReadFault (script_source old) (script_source new)
   read_fault [] e to step = let wrong = to.0 in cc
   read_fault (reads.Bytes bytes ∷ steps) e to step = let wrong = to.0 in cc
@@ -216,11 +216,11 @@ module _ (waits : Bool) (old new : Script) (buf : List ℕ) where
       (elim waits as (λ w. now.Failed ≡ (if w then now.End else now.NotYet) → ReadFault (script_source old) (script_source new)) [ true ↦ λ wrong. cc | false ↦ λ wrong. cc ]) to.0
   read_fault (reads.Fault ∷ steps) e to step =
       let may : list_any may_stop old.reads ≡ true =
-      true_from_ne_false (list_any may_stop old.reads) (λ h. let none : true ≡ false = sym (ap (list_any may_stop) e) ∙ holds-after_skipped old.count waits old.reads h in cc) in
+      true_from_ne_false (list_any may_stop old.reads) (λ h. let none : true ≡ false = sym (ap (list_any may_stop) e) ∙ holds-after_skipped old.written_count waits old.reads h in cc) in
       record {
         advances = record {
           taken = step.taken;
-          left = sym (bytes_of-after_skipped old.count waits old.reads) ∙ ap bytes_of e ∙ ap bytes_of (sym to.1);
+          left = sym (bytes_of-after_skipped old.written_count waits old.reads) ∙ ap bytes_of e ∙ ap bytes_of (sym to.1);
           faults = omega (arith, step.counts.0, step.in_range.0);
           pauses = omega (arith, step.counts.1);
           holds = λ h. let never : not (list_any may_stop old.reads) ≡ false = ap not may in cc;
@@ -228,7 +228,7 @@ module _ (waits : Bool) (old new : Script) (buf : List ℕ) where
         was_open = is_open now.Failed (λ wrong. cc) step;
         is_open = step.counts.2;
         pauses = step.counts.1;
-        rose = subst (Rose old.read_faults) (sym step.counts.0) (counted_rises old.read_faults step.in_range.0);
+        rose = subst (Rose old.read_faults) (sym step.counts.0) (next_count-rises old.read_faults step.in_range.0);
         holds_not = ap not may;
       }
 
@@ -247,9 +247,9 @@ module _ (waits : Bool) (old new : Script) (buf : List ℕ) where
     whole = λ h. ap Some (step.settled ended (false_from_ne_true _ (λ yes. let no = ap not yes in cc)));
   }
 
-  read_end : (s : List ReadStep) → after_skipped old.count waits old.reads ≡ s → NextRead waits s now.End new.reads buf → ScriptReads waits now.End old new buf → ReadEnd (script_source old) (script_source new)
+  read_end : (s : List ReadStep) → after_skipped old.written_count waits old.reads ≡ s → NextRead waits s now.End new.reads buf → ScriptReads waits now.End old new buf → ReadEnd (script_source old) (script_source new)
   read_end [] e to step =
-      let none : bytes_of old.reads ≡ [] = sym (bytes_of-after_skipped old.count waits old.reads) ∙ ap bytes_of e in
+      let none : bytes_of old.reads ≡ [] = sym (bytes_of-after_skipped old.written_count waits old.reads) ∙ ap bytes_of e in
       record {
         advances = record {
           taken = step.taken;
@@ -269,7 +269,7 @@ module _ (waits : Bool) (old new : Script) (buf : List ℕ) where
   read_end (reads.AfterWritten k ∷ steps) e to step = record {
     advances = record {
       taken = step.taken;
-      left = sym (bytes_of-after_skipped old.count waits old.reads) ∙ ap bytes_of e ∙ ap bytes_of (sym to.1);
+      left = sym (bytes_of-after_skipped old.written_count waits old.reads) ∙ ap bytes_of e ∙ ap bytes_of (sym to.1);
       faults = omega (arith, step.counts.0);
       pauses = omega (arith, step.counts.1);
       holds = holds_on (reads.AfterWritten k ∷ steps) e (ap (list_any may_stop) (sym to.1));
@@ -279,21 +279,21 @@ module _ (waits : Bool) (old new : Script) (buf : List ℕ) where
     pauses = step.counts.1;
     whole = λ h.
         let none : list_any may_stop old.reads ≡ false = false_from_ne_true _ (λ yes. let no = ap not yes in cc) in
-        let wrong : true ≡ false = sym (ap (list_any may_stop) e) ∙ holds-after_skipped old.count waits old.reads none in
+        let wrong : true ≡ false = sym (ap (list_any may_stop) e) ∙ holds-after_skipped old.written_count waits old.reads none in
         cc;
   }
 
 pub reads_now_as : (waits : Bool) (answer : TakeNow) (old new : Script) (buf : List ℕ) → 0 < length buf → ScriptReads waits answer old new buf → ReadsNowAs answer (script_source old) (script_source new) buf
 reads_now_as waits (now.Bytes n) old new buf room step =
-    read_some waits old new buf n (after_skipped old.count waits old.reads) refl room (step.steps (is_open waits old new buf (now.Bytes n) (λ wrong. cc) step)) step
+    read_some waits old new buf n (after_skipped old.written_count waits old.reads) refl room (step.steps (is_open waits old new buf (now.Bytes n) (λ wrong. cc) step)) step
 reads_now_as waits now.NotYet old new buf room step =
-    read_pause waits old new buf (after_skipped old.count waits old.reads) refl (step.steps (is_open waits old new buf now.NotYet (λ wrong. cc) step)) step
+    read_pause waits old new buf (after_skipped old.written_count waits old.reads) refl (step.steps (is_open waits old new buf now.NotYet (λ wrong. cc) step)) step
 reads_now_as waits now.Failed old new buf room step =
-    read_fault waits old new buf (after_skipped old.count waits old.reads) refl (step.steps (is_open waits old new buf now.Failed (λ wrong. cc) step)) step
+    read_fault waits old new buf (after_skipped old.written_count waits old.reads) refl (step.steps (is_open waits old new buf now.Failed (λ wrong. cc) step)) step
 reads_now_as waits now.End old new buf room step =
     (elim old.ended as (λ b. old.ended ≡ b → ReadEnd (script_source old) (script_source new)) [
       | true ↦ λ ended. read_over waits old new buf ended step
-      | false ↦ λ still. read_end waits old new buf (after_skipped old.count waits old.reads) refl (step.steps still) step
+      | false ↦ λ still. read_end waits old new buf (after_skipped old.written_count waits old.reads) refl (step.steps still) step
     ]) refl
 
 pub reads_as : (answer : Take) (old new : Script) (buf : List ℕ) → 0 < length buf → ScriptReads true (as_now answer) old new buf → ReadsAs answer (script_source old) (script_source new) buf
@@ -311,7 +311,7 @@ never_from count steps after (reads.Pause ∷ more) buf e to = let wrong = not_s
 -- a read that waits never says that nothing is there yet
 pub never_not_yet : (old new : Script) (buf : List ℕ) → ScriptReads true now.NotYet old new buf → ⊥
 never_not_yet old new buf step =
-    never_from old.count old.reads new.reads (after_skipped old.count true old.reads) buf refl (step.steps (is_open true old new buf now.NotYet (λ wrong. cc) step))
+    never_from old.written_count old.reads new.reads (after_skipped old.written_count true old.reads) buf refl (step.steps (is_open true old new buf now.NotYet (λ wrong. cc) step))
 
 -- a step of bytes is is_skipped over where all of it is gone
 pub is_skipped-bytes : (count : ℕ) (waits : Bool) (offset : ℕ) (bytes left : List ℕ) → drop offset bytes ≡ left → nat_le (length bytes) offset ≡ is_skipped count waits (reads.Bytes left)

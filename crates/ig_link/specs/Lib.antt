@@ -8,3 +8,5 @@ pub mod Pipes
 pub mod Script
 pub mod ScriptOffset
 pub mod MemLink
+pub mod DoorScript
+pub mod MemDoor

@@ -11,6 +11,7 @@
 mod door;
 mod ends;
 mod link;
+mod mem_door;
 mod mem_link;
 mod pipes;
 mod send;
@@ -18,6 +19,7 @@ mod send;
 pub use door::{Door, Opened};
 pub use ends::{Duplex, Gave, Sink, Source, Take};
 pub use link::{Left, Link, Retired, TakeNow};
+pub use mem_door::{DoorStep, MemDoor};
 pub use mem_link::{MemLink, ReadStep, WriteStep};
 pub use pipes::{PipeIn, PipeOut};
 pub use send::{SendFault, send_all};
