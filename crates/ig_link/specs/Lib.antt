@@ -10,3 +10,5 @@ pub mod ScriptOffset
 pub mod MemLink
 pub mod DoorScript
 pub mod MemDoor
+pub mod Gathered
+pub mod Gathering

@@ -10,6 +10,7 @@
 
 mod door;
 mod ends;
+mod gathering;
 mod link;
 mod mem_door;
 mod mem_link;
