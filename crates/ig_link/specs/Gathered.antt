@@ -39,3 +39,8 @@ GatheredWrite (gave.Bytes n) before after old new piece =
         × (1 ≤ n) × (n ≤ length piece) × (old.broken ≡ false) × (new.broken ≡ false)
 GatheredWrite gave.Failed before after old new piece =
     HandsOn before after old.waiting new.waiting × (new.broken ≡ true)
+
+-- a write took at least one byte and at most the piece, or failed
+abbrev pub WritesAtLeastOne : Gave → List ℕ → Type 0
+WritesAtLeastOne (gave.Bytes n) piece = (1 ≤ n) × (n ≤ length piece)
+WritesAtLeastOne gave.Failed piece = Unit {0}

@@ -12,3 +12,5 @@ pub mod DoorScript
 pub mod MemDoor
 pub mod Gathered
 pub mod Gathering
+pub mod TcpLink
+pub mod TcpDoor

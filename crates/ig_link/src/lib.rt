@@ -16,6 +16,8 @@ mod mem_door;
 mod mem_link;
 mod pipes;
 mod send;
+mod tcp_door;
+mod tcp_link;
 
 pub use door::{Door, Opened};
 pub use ends::{Duplex, Gave, Sink, Source, Take};
@@ -24,6 +26,8 @@ pub use mem_door::{DoorStep, MemDoor};
 pub use mem_link::{MemLink, ReadStep, WriteStep};
 pub use pipes::{PipeIn, PipeOut};
 pub use send::{SendFault, send_all};
+pub use tcp_door::TcpDoor;
+pub use tcp_link::TcpLink;
 
 #[cfg(test)]
 mod tests;
