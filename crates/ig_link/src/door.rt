@@ -5,6 +5,7 @@ ghost use Rattle.ig_link.specs.AcceptsAs.{DoorState, AcceptsAs};
 use crate::link::Link;
 
 /// The answer of an accept.
+#[derive(Drop)]
 pub enum Opened<L> {
     /// The next link.
     Link(L),

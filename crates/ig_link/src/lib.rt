@@ -30,4 +30,6 @@ pub use tcp_door::TcpDoor;
 pub use tcp_link::TcpLink;
 
 #[cfg(test)]
+mod tcp_tests;
+#[cfg(test)]
 mod tests;

@@ -227,6 +227,13 @@ impl MemLink {
     {
         self.write_faults
     }
+
+    /// How often a read that doesn't wait has found nothing yet. The count saturates at `u64::MAX`.
+    pub fn pauses(&self) -> u64
+        ensures { result ≡ self.now.pauses }
+    {
+        self.pauses
+    }
 }
 
 impl MemLink {
