@@ -1,5 +1,5 @@
 -- A step of a door's script is an accept as the trait states it.
-use Rattle.std.proofs.Common.{◌≡◌, ℕ, ◌+◌, ◌-◌, ◌^◌, ◌<◌, true, false, not, List, [], ◌∷◌, Some, refl, sym, ap, ◌∙◌, subst, arith}
+use Rattle.std.proofs.Common.{◌≡◌, true, false, not, List, [], ◌∷◌, Some, refl, sym, ap, ◌∙◌, subst, arith}
 use Rattle.std.proofs.lemmas.Bool.{false_from_ne_true}
 use Rattle.ig_link.specs.States.{Rose}
 use Rattle.ig_link.specs.AcceptsAs.{IsComing, IsNew, OpensLink, DoorEnds, DoorFails, AcceptsAs}

@@ -1,5 +1,5 @@
 -- What a buffer that gathers bytes for a writer does with them.
-use Rattle.std.specs.Prelude.{◌≡◌, ℕ, ◌≤◌, Bool, true, false, List, [], ◌++◌, take, drop, length, Option, MatchBool}
+use Rattle.std.specs.Prelude.{◌≡◌, ℕ, ◌≤◌, Bool, true, false, List, [], ◌++◌, take, drop, length, Option}
 use Rattle.std.specs.Io.KnownBytes.{Appends}
 use Rattle.ig_link.specs.declared.ends.Gave.{Gave}
 use Rattle.ig_link.specs.declared.ends.Gave.TheVariants as gave

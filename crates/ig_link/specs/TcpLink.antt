@@ -1,5 +1,5 @@
 -- What contracts see of a link over TCP, which tells no bytes.
-use Rattle.std.specs.Prelude.{◌≡◌, ℕ, ⊤, false, true, List, [], Option, Some, None}
+use Rattle.std.specs.Prelude.{◌≡◌, ⊤, false, true, [], Option, Some, None}
 use Rattle.ig_link.specs.States.{SourceState, SinkState}
 use Rattle.ig_link.specs.Gathered.{Gathered}
 use Rattle.ig_link.specs.declared.tcp_link.TcpLink.{TcpLink}

@@ -1,4 +1,4 @@
-use Rattle.std.proofs.Common.{◌∙◌, ◌+◌, arith, length-drop, subst, sym, ap, List, ℕ, take, drop, length}
+use Rattle.std.proofs.Common.{arith, length-drop, subst, sym, ap, List, ℕ, take, drop, length}
 use Rattle.std.proofs.lemmas.List.{take_rest}
 use Rattle.std.proofs.Math.Seq.{take-add}
 use Rattle.std.specs.Io.KnownBytes.{Appends}

@@ -1,4 +1,4 @@
-use Rattle.std.proofs.Common.{◌≡◌, ℕ, ◌∙◌, List, drop, length, ap, sym}
+use Rattle.std.proofs.Common.{◌∙◌, drop, ap, sym}
 use Rattle.std.proofs.lemmas.List.{take_rest}
 use Rattle.ig_link.specs.Gathered.{Gathered}
 use Rattle.ig_link.proofs.GatheringLemmas.{all_written}

@@ -1,4 +1,4 @@
-use Rattle.std.proofs.Common.{◌≡◌, ℕ, ◌∙◌, ◌++◌, List, drop, length, ap, sym, subst, arith, rules}
+use Rattle.std.proofs.Common.{ℕ, ◌∙◌, ◌++◌, List, length, ap, sym, subst, arith, rules}
 use Rattle.std.proofs.lemmas.List.{take_all}
 use Rattle.ig_link.specs.Gathered.{Gathered, HandsOn}
 use Rattle.ig_link.proofs.GatheringLemmas.{waits_on, written_after}
