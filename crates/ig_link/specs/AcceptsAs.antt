@@ -31,7 +31,7 @@ abbrev pub FirstComes : Option (List Coming) → SourceState → SinkState → O
 FirstComes None source sink after = after ≡ None
 FirstComes (Some coming) source sink after =
     (c : Coming) × (others : List Coming) × (coming ≡ c ∷ others) × (after ≡ Some others)
-        × IsComing c source sink
+    × IsComing c source sink
 
 -- nothing was read from the link or written to it, and no read or write has failed, paused or ended
 pub record IsNew (source : SourceState) (sink : SinkState) : Type 0 where

@@ -22,7 +22,7 @@ pub record HandsOn (before after : Option (List ℕ)) (bytes waiting : List ℕ)
 abbrev pub GatheredFlush : Bool → Option (List ℕ) → Option (List ℕ) → Gathered → Gathered → Type 0
 GatheredFlush true before after old new =
     HandsOn before after old.waiting new.waiting × (new.waiting ≡ [])
-        × (old.broken ≡ false) × (new.broken ≡ false)
+    × (old.broken ≡ false) × (new.broken ≡ false)
 GatheredFlush false before after old new =
     HandsOn before after old.waiting new.waiting × (new.broken ≡ true)
 
@@ -36,7 +36,7 @@ KeepsPiece false old new piece = new ≡ old
 abbrev pub GatheredWrite : Gave → Option (List ℕ) → Option (List ℕ) → Gathered → Gathered → List ℕ → Type 0
 GatheredWrite (gave.Bytes n) before after old new piece =
     HandsOn before after (old.waiting ++ take n piece) new.waiting
-        × (1 ≤ n) × (n ≤ length piece) × (old.broken ≡ false) × (new.broken ≡ false)
+    × (1 ≤ n) × (n ≤ length piece) × (old.broken ≡ false) × (new.broken ≡ false)
 GatheredWrite gave.Failed before after old new piece =
     HandsOn before after old.waiting new.waiting × (new.broken ≡ true)
 

@@ -193,7 +193,10 @@ fn a_taken_port_and_a_refused_connection_are_faults(rt: HostRuntime) -> Result<(
     assert_eq!(rt; link.read_now(&mut buf), TakeNow::Failed);
     assert_eq!(rt; link.write(&[1]), Gave::Failed);
     let retired = link.retire();
-    assert_eq!(rt; (retired.read_faults, retired.write_faults, retired.pauses), (2, 1, 0));
+    assert_eq!(rt;
+        (retired.read_faults, retired.write_faults, retired.pauses),
+        (2, 1, 0)
+    );
     assert!(rt; !retired.ended);
     Ok(())
 }
