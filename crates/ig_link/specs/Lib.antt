@@ -1,6 +1,16 @@
 pub mod States
 pub mod ReadsAs
 pub mod WritesAs
+pub mod ReadsNowAs
+pub mod Shows
+pub mod AcceptsAs
 pub mod Pipes
 pub mod Script
+pub mod ScriptOffset
 pub mod MemLink
+pub mod DoorScript
+pub mod MemDoor
+pub mod Gathered
+pub mod Gathering
+pub mod TcpLink
+pub mod TcpDoor

@@ -12,6 +12,7 @@ pub record ReadSome (n : ℕ) (old new : SourceState) (buf : List ℕ) : Type 0 
   pub was_open : old.ended ≡ false
   pub is_open : new.ended ≡ false
   pub counts : new.faults ≡ old.faults
+  pub pauses : new.pauses ≡ old.pauses
 
 -- the source has ended; if its reads hold, it told that no byte was still to come
 pub record ReadEnd (old new : SourceState) : Type 0 where
@@ -19,6 +20,7 @@ pub record ReadEnd (old new : SourceState) : Type 0 where
   pub ended : new.ended ≡ true
   pub whole : old.holds ≡ true → old.left ≡ Some []
   pub counts : new.faults ≡ old.faults
+  pub pauses : new.pauses ≡ old.pauses
 
 -- the read failed, which is counted, and the source's reads didn't hold
 pub record ReadFault (old new : SourceState) : Type 0 where
@@ -26,6 +28,7 @@ pub record ReadFault (old new : SourceState) : Type 0 where
   pub was_open : old.ended ≡ false
   pub is_open : new.ended ≡ false
   pub rose : Rose old.faults new.faults
+  pub pauses : new.pauses ≡ old.pauses
   pub holds_not : old.holds ≡ false
 
 abbrev pub ReadsAs : Take → SourceState → SourceState → List ℕ → Type 0

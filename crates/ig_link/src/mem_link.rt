@@ -1,9 +1,11 @@
 //! A link in memory that follows a script.
 
 ghost use Rattle.std.specs.Prelude.{◌≡◌, ◌<◌, ◌≤◌, ◌+◌, ◌++◌, ℕ, List, [], false, true, vec_len, vec_capacity, length, take, drop, min, IfOk, IfSome, MatchOption, OnSome, IsNone, IsTrue, ◌↔◌};
-ghost use Rattle.ig_link.specs.Script.{bytes_of, after_empty_steps, steps_from_offset};
+ghost use Rattle.ig_link.specs.Script.{bytes_of, is_skipped, after_skipped};
+ghost use Rattle.ig_link.specs.ScriptOffset.{step_from_offset, steps_from_offset};
 
 use crate::ends::{Duplex, Gave, Sink, Source, Take};
+use crate::link::{Link, Retired, TakeNow};
 use ig_base::{NoMemory, Octets};
 use std::alloc::Global;
 use std::marker::Model;
@@ -13,6 +15,11 @@ use std::marker::Model;
 pub enum ReadStep {
     /// These bytes, in as many reads as their buffers need. An empty step is skipped.
     Bytes(Octets),
+    /// One read that doesn't wait finds nothing yet. A read that waits skips it.
+    Pause,
+    /// Until this many bytes were written, a read that doesn't wait finds nothing yet and one that waits
+    /// finds the end, after which all reads do. Then it is skipped.
+    AfterWritten(u64),
     /// One read fails.
     Fault,
 }
@@ -27,7 +34,8 @@ pub enum WriteStep {
 }
 
 /// A link in memory that follows a script: its read steps and its write steps are each used in order.
-/// After the last read step it ends. After the last write step it takes every piece whole.
+/// After the last read step it ends, and so it does for good at its first answer of the end. After the
+/// last write step it takes every piece whole.
 ///
 /// It tells the bytes taken and the bytes still to come. It tells the bytes written until they are
 /// more than it has room for; bytes after that are taken and not kept.
@@ -40,10 +48,12 @@ pub struct MemLink {
     next_write: usize,
     taken: Vec<u8>,
     written: Vec<u8>,
+    written_count: u64,
     room: usize,
     overrun: bool,
     read_faults: u64,
     write_faults: u64,
+    pauses: u64,
     ended: bool,
 }
 
@@ -76,25 +86,40 @@ fn copy_some(bytes: &[u8], buf: &mut [u8]) -> usize
     n
 }
 
-/// Skips the steps that have no bytes left and aren't faults. Takes and returns the index of a step and
-/// the number of its bytes that were taken.
-fn skip_empty_steps(reads: &[ReadStep], next: usize, offset: usize) -> (usize, usize)
+/// Whether a read skips a step of which the bytes up to an offset were taken.
+fn is_skipped(step: &ReadStep, offset: usize, written_count: u64, waits: bool) -> bool
+    ensures { result ≡ is_skipped written_count waits (step_from_offset offset step.now) }
+{
+    match step {
+        ReadStep::Bytes(bytes) => offset >= bytes.len(),
+        ReadStep::Pause => waits,
+        ReadStep::AfterWritten(count) => *count <= written_count,
+        ReadStep::Fault => false,
+    }
+}
+
+/// Skips the steps that a read skips. Takes and returns the index of a step and the number of its bytes
+/// that were taken.
+fn skip_steps(
+    reads: &[ReadStep],
+    next: usize,
+    offset: usize,
+    written_count: u64,
+    waits: bool,
+) -> (usize, usize)
     requires { next ≤ length reads.now }
     ensures within { result.0 ≤ length reads.now }
-    ensures later { next ≤ result.0 }
     ensures steps { steps_from_offset result.1 (drop result.0 reads.now)
-        ≡ after_empty_steps (steps_from_offset offset (drop next reads.now)) }
+        ≡ after_skipped written_count waits (steps_from_offset offset (drop next reads.now)) }
 {
     let mut next = next;
     let mut offset = offset;
     while next < reads.len() {
-        match &reads[next] {
-            ReadStep::Bytes(bytes) if offset >= bytes.len() => {
-                next += 1;
-                offset = 0;
-            }
-            _ => break,
+        if !is_skipped(&reads[next], offset, written_count, waits) {
+            break;
         }
+        next += 1;
+        offset = 0;
     }
     (next, offset)
 }
@@ -160,10 +185,12 @@ impl MemLink {
             next_write: 0,
             taken,
             written,
+            written_count: 0,
             room,
             overrun: false,
             read_faults: 0,
             write_faults: 0,
+            pauses: 0,
             ended: false,
         })
     }
@@ -200,35 +227,66 @@ impl MemLink {
     {
         self.write_faults
     }
+
+    /// How often a read that doesn't wait has found nothing yet. The count saturates at `u64::MAX`.
+    pub fn pauses(&self) -> u64
+        ensures { result ≡ self.now.pauses }
+    {
+        self.pauses
+    }
 }
 
 impl MemLink {
     ghost use Rattle.std.specs.Prelude.{◌<◌, ◌≤◌, ◌-◌, ◌^◌, length};
-    ghost use Rattle.ig_link.specs.Script.{ScriptReads, ScriptWrites};
+    ghost use Rattle.ig_link.specs.Script.{ScriptReads};
 
-    /// The next read, as the script has it.
-    fn follow_read(&mut self, buf: &mut [u8]) -> Take
+    /// The next read, which waits or doesn't, as the script has it.
+    fn follow_read(&mut self, buf: &mut [u8], waits: bool) -> TakeNow
         requires { 0 < length buf.old }
-        ensures { ScriptReads result self.old self.new buf.new }
+        ensures { ScriptReads waits result self.old self.new buf.new }
     {
-        (self.next_read, self.offset) = skip_empty_steps(&self.reads, self.next_read, self.offset);
+        if self.ended {
+            return TakeNow::End;
+        }
+        (self.next_read, self.offset) = skip_steps(
+            &self.reads,
+            self.next_read,
+            self.offset,
+            self.written_count,
+            waits,
+        );
         match self.reads.get(self.next_read) {
             None => {
                 self.ended = true;
-                Take::End
+                TakeNow::End
+            }
+            Some(ReadStep::AfterWritten(_)) => {
+                if waits {
+                    self.ended = true;
+                    TakeNow::End
+                } else {
+                    self.pauses = self.pauses.saturating_add(1);
+                    TakeNow::NotYet
+                }
+            }
+            Some(ReadStep::Pause) => {
+                self.next_read += 1;
+                self.offset = 0;
+                self.pauses = self.pauses.saturating_add(1);
+                TakeNow::NotYet
             }
             Some(ReadStep::Fault) => {
                 self.next_read += 1;
                 self.offset = 0;
                 self.read_faults = self.read_faults.saturating_add(1);
-                Take::Failed
+                TakeNow::Failed
             }
             Some(ReadStep::Bytes(bytes)) => {
                 let left = bytes_from(bytes.as_slice(), self.offset);
                 let n = copy_some(left, buf);
                 let _ = self.taken.extend_from_slice(&left[..n]);
                 self.offset += n;
-                Take::Bytes(n)
+                TakeNow::Bytes(n)
             }
         }
     }
@@ -246,6 +304,7 @@ impl MemLink {
         match self.writes.get(self.next_write) {
             None => {
                 keep(&mut self.written, &mut self.overrun, self.room, piece);
+                self.written_count = self.written_count.saturating_add(piece.len() as u64);
                 Gave::Bytes(piece.len())
             }
             Some(WriteStep::Fault) => {
@@ -257,6 +316,7 @@ impl MemLink {
                 let n = (*most).max(1).min(piece.len());
                 self.next_write += 1;
                 keep(&mut self.written, &mut self.overrun, self.room, &piece[..n]);
+                self.written_count = self.written_count.saturating_add(n as u64);
                 Gave::Bytes(n)
             }
         }
@@ -266,7 +326,7 @@ impl MemLink {
 impl Source for MemLink {
     ghost use Rattle.std.specs.Prelude.{◌≡◌, ◌<◌, length};
     ghost use Rattle.ig_link.specs.ReadsAs.{ReadsAs};
-    ghost use Rattle.ig_link.specs.Script.{script_source, script_sink, ScriptReads};
+    ghost use Rattle.ig_link.specs.Script.{script_source, script_sink, ScriptReads, as_now};
 
     ghost source = { script_source };
 
@@ -277,9 +337,14 @@ impl Source for MemLink {
         ensures answer { ReadsAs result (script_source self.old) (script_source self.new) buf.new }
         ensures beside { script_sink self.new ≡ script_sink self.old }
         // The answer is the script's.
-        ensures step { ScriptReads result self.old self.new buf.new }
+        ensures step { ScriptReads true (as_now result) self.old self.new buf.new }
     {
-        self.follow_read(buf)
+        match self.follow_read(buf, true) {
+            TakeNow::Bytes(n) => Take::Bytes(n),
+            TakeNow::End => Take::End,
+            TakeNow::Failed => Take::Failed,
+            TakeNow::NotYet => unreachable!(),
+        }
     }
 }
 
@@ -309,4 +374,44 @@ impl Duplex for MemLink {
     ghost reads_beside = { λ link. refl };
 
     ghost writes_beside = { λ link. refl };
+}
+
+impl Link for MemLink {
+    ghost use Rattle.std.specs.Prelude.{◌≡◌, ◌<◌, false, length};
+    ghost use Rattle.ig_link.specs.ReadsNowAs.{ReadsNowAs};
+    ghost use Rattle.ig_link.specs.Script.{script_source, script_sink, ScriptReads};
+
+    type Left = Retired;
+
+    fn read_now(&mut self, buf: &mut [u8]) -> TakeNow
+        requires { 0 < length buf.old }
+        ensures answer { ReadsNowAs result (script_source self.old) (script_source self.new) buf.new }
+        ensures beside { script_sink self.new ≡ script_sink self.old }
+        // The answer is the script's.
+        ensures step { ScriptReads false result self.old self.new buf.new }
+    {
+        self.follow_read(buf, false)
+    }
+
+    fn retire(self) -> Retired {
+        let overrun = self.overrun;
+        let read_faults = self.read_faults;
+        let write_faults = self.write_faults;
+        let pauses = self.pauses;
+        let ended = self.ended;
+        let taken = self.taken;
+        let written = self.written;
+        Retired {
+            taken: Some(Octets::new(taken)),
+            written: if overrun {
+                None
+            } else {
+                Some(Octets::new(written))
+            },
+            read_faults,
+            write_faults,
+            pauses,
+            ended,
+        }
+    }
 }

@@ -38,7 +38,7 @@ pub struct PipeOut<W> {
 }
 
 /// One read, tried again while it is interrupted, at most `u64::MAX` times in all.
-fn read_some<R: Read>(reader: &mut R, buf: &mut [u8]) -> io::Result<usize>
+pub fn read_some<R: Read>(reader: &mut R, buf: &mut [u8]) -> io::Result<usize>
     ensures bound { ReadsAtMost result buf.new }
     ensures bytes { ReadConsumes (R.remaining reader.old) (R.remaining reader.new) result buf.new }
     ensures retried { IfErr result (λ e. error_kind e ≢ ErrorKind.Interrupted) }
@@ -53,7 +53,7 @@ fn read_some<R: Read>(reader: &mut R, buf: &mut [u8]) -> io::Result<usize>
 }
 
 /// One write, tried again while it is interrupted, at most `u64::MAX` times in all.
-fn write_some<W: Write>(writer: &mut W, piece: &[u8]) -> io::Result<usize>
+pub fn write_some<W: Write>(writer: &mut W, piece: &[u8]) -> io::Result<usize>
     ensures bound { WritesAtMost result piece.now }
     ensures bytes { WriteAppends (W.contents writer.old) (W.contents writer.new) result piece.now }
     ensures retried { IfErr result (λ e. error_kind e ≢ ErrorKind.Interrupted) }
