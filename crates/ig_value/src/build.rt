@@ -3,6 +3,8 @@
 ghost use Rattle.std.specs.Prelude.{◌≡◌, ◌<◌, ◌^◌, length, map, MatchResult, IfOk, IsNone, IfSome, IsTrue, IsFalse};
 ghost use Rattle.std.specs.List.{AllByRecursion};
 ghost use Rattle.ig_value.specs.Limits.{Fits, Depth};
+ghost use Rattle.ig_value.specs.Part.{i32};
+ghost use Rattle.ig_value.specs.Spells.{IsInRange};
 ghost use Rattle.ig_value.specs.Build.{IsBuildable, IsBuilt, IsRefused, AreShallow, object_of};
 ghost use Rattle.ig_value.specs.declared.build.BuildFault.TheVariants as build;
 
@@ -82,8 +84,9 @@ fn assemble(
     type_id: i32,
     fields: Vec<(i32, Value)>,
 ) -> Result<Object, BuildFault>
-    ensures { MatchResult result (λ o. o ≡ object_of bits type_id fields.items)
+    ensures is { MatchResult result (λ o. o ≡ object_of bits type_id fields.items)
         (λ fault. fault ≡ build.NoMemory) }
+    ensures in_range { IfOk result (λ o. AllByRecursion (IsInRange i32) (map (λ f. f.0) fields.items)) }
 {
     let ids = ids_of(alloc, &fields)?;
     let values = values_of(alloc, fields)?;
@@ -97,7 +100,8 @@ fn assemble(
 
 /// The identifiers of these fields.
 fn ids_of(alloc: Global, fields: &[(i32, Value)]) -> Result<Items<i32>, NoMemory>
-    ensures { IfOk result (λ ids. ids ≡ map (λ f. f.0) fields.now) }
+    ensures are { IfOk result (λ ids. ids ≡ map (λ f. f.0) fields.now) }
+    ensures in_range { IfOk result (AllByRecursion (IsInRange i32)) }
 {
     let mut ids = Vec::with_capacity(alloc, fields.len())?;
     for field in fields {
