@@ -8,6 +8,7 @@ ghost use Rattle.ig_value.specs.Spells.{IsInRange};
 ghost use Rattle.ig_value.specs.Build.{IsBuildable, IsBuilt, IsRefused, AreShallow, object_of};
 ghost use Rattle.ig_value.specs.declared.build.BuildFault.TheVariants as build;
 
+use crate::flags::kept_flags;
 use crate::object::{Record, Shape};
 use crate::value::{DEEPEST, Object, Value};
 use ig_base::{Items, NoMemory};
@@ -17,13 +18,16 @@ use thiserror::Error;
 /// Why an object can't be built.
 #[derive(Clone, Copy, Debug, PartialEq, Eq, Error)]
 pub enum BuildFault {
-    #[error("the object has a flag that only its encoding may have")]
+    /// A flag other than 1 and those from 64 up.
+    #[error("a flag says how an object is encoded, and can't be given")]
     Bits,
-    #[error("an object's type can't be 0")]
+    /// The type 0, which no object has.
+    #[error("the type of an object can't be 0")]
     TypeId,
-    #[error("a field is 32 levels deep already")]
+    /// A field of 32 levels: the object around it would have 33.
+    #[error("a field is as deep as a value may be")]
     Deep,
-    #[error("no memory")]
+    #[error("out of memory")]
     NoMemory,
 }
 
@@ -36,11 +40,12 @@ impl From<NoMemory> for BuildFault {
 }
 
 impl Record<Value> {
-    /// An object of a type with these fields, each after its identifier. `bits` may have flag 1, of a
-    /// type that the user declared, and flags from 64 up.
+    /// An object of this type with these fields, each after its identifier. `bits` may have flag 1,
+    /// of a user type, and flags from 64 up. The fields keep their order; an identifier may occur
+    /// more than once.
     ///
-    /// Refused are, in this order: other bits, the type 0, and a field that is as deep as a value
-    /// can be.
+    /// It fails, in this order, if there is another flag, if the type is 0, or if a field is as
+    /// deep as a value may be. The fields are dropped then, as when memory runs out.
     pub fn build(
         alloc: Global,
         bits: u16,
@@ -65,7 +70,7 @@ fn refusal(bits: u16, type_id: i32, fields: &[(i32, Value)]) -> Option<BuildFaul
     ensures none { IsNone result → IsBuildable bits type_id fields.now }
     ensures some { IfSome result (IsRefused bits type_id fields.now) }
 {
-    if bits / 64 * 64 + bits % 2 != bits {
+    if kept_flags(bits) != bits {
         return Some(BuildFault::Bits);
     }
     if type_id == 0 {
