@@ -1,6 +1,6 @@
 -- What follows of the spelling of an object: it keeps to the limits, it has a byte for each node, and
 -- its canonical form is no longer. And the canonical form of what keeps to the limits spells it.
-use Rattle.std.proofs.Common.{◌≡◌, ◌≢◌, ℕ, zero, suc, ◌+◌, ◌-◌, ◌*◌, ◌/◌, ◌%◌, ◌<◌, ◌≤◌, ◌^◌, ℤ, pos, Bool, true, false, cond, List, [], ◌∷◌, ◌++◌, length, map, take, drop, fold, Option, Some, None, ltb, eq-eqb, not, ◌&&◌, refl, sym, ap, subst, ◌∙◌, append_assoc, arith, inl, inr, length-append}
+use Rattle.std.proofs.Common.{◌≡◌, ◌≢◌, ℕ, zero, suc, ◌+◌, ◌*◌, ◌/◌, ◌%◌, ◌<◌, ◌≤◌, ◌^◌, ℤ, pos, Bool, true, false, cond, List, [], ◌∷◌, ◌++◌, length, map, take, drop, fold, Option, Some, ltb, eq-eqb, not, ◌&&◌, refl, sym, ap, subst, ◌∙◌, arith, inl, inr, length-append}
 use Rattle.std.specs.Prelude.{FitsSigned, slice_index}
 use Rattle.std.specs.Int.{Width, w8, w16, w32, byte_len, cast_signed, from_le_bytes}
 use Rattle.std.specs.List.{flat_map, sum_by, AllByRecursion}
@@ -19,10 +19,10 @@ use Rattle.ig_base.specs.declared.header.Header.{Header}
 use Rattle.ig_value.specs.declared.object.Record.{Record}
 use Rattle.ig_value.specs.declared.object.Shape.{Shape}
 use Rattle.ig_value.specs.declared.object.Shape.TheVariants.{Named, Compact}
-use Rattle.ig_value.specs.Objects.{kept_flags, schema_of, offset_type, size_of, named_footer, footer_bytes, HasNoFields, HasFields, AreLaid, IsObject, IsShape, places_from, last_of, narrowest, width_flag, compact_flag, canonical_schema, object_bytes}
+use Rattle.ig_value.specs.Objects.{kept_flags, schema_of, offset_type, footer_bytes, HasFields, AreLaid, IsObject, IsShape, places_from, last_of, narrowest, width_flag, compact_flag, canonical_schema, object_bytes}
 use Rattle.ig_value.specs.Limits.{IsLimitedShape, IsLimitedHead, IsLimitedObject, shape_nodes}
 use Rattle.ig_value.proofs.AgreesLemmas.{AreBytes-take, AreBytes-drop}
-use Rattle.ig_value.proofs.ScalarLemmas.{IsWide, wide8, wide16, wide32, signed_number, unsigned_number, signed_fits}
+use Rattle.ig_value.proofs.ScalarLemmas.{IsWide, wide16, wide32, signed_number, unsigned_number, signed_fits}
 use Rattle.ig_value.proofs.FooterLemmas.{wide_by, bits_by, named_len, bare_len}
 use Rattle.ig_value.proofs.HeaderLemmas.{header_there, header_prefix}
 

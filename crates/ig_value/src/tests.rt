@@ -128,7 +128,7 @@ fn a_shape_is_that_of_the_fields(rt: HostRuntime) -> Result<(), Fail> {
     Ok(())
 }
 
-/// The object of type 112 with a null field of identifier 97, as it is built.
+/// An object of type 112 with this field, of identifier 97, as it is built.
 fn built(alloc: Global, field: Value) -> Result<Object, Fail>
     requires { Fits field }
 {
@@ -144,6 +144,7 @@ fn an_object_is_built_of_its_fields(rt: HostRuntime) -> Result<(), Fail> {
     let object = Boxed::new(rt.alloc(), built(rt.alloc(), field)?)?;
     let named = shaped(rt.alloc(), Shape::Named(list(rt.alloc(), 97)?), true)?;
     let value = Value::Object(object);
+    assert!(rt; value.keeps_to_limits());
     assert!(rt; value.same(&Value::Object(Boxed::new(rt.alloc(), named)?)));
     assert_eq!(rt; value.depth(), 2);
     Ok(())
