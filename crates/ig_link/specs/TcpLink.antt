@@ -1,6 +1,6 @@
 -- What contracts see of a link over TCP, which tells no bytes.
-use Rattle.std.specs.Prelude.{ℕ, false, true, List, Option, None}
-use Rattle.ig_link.specs.States.{SourceState, SinkState}
+use Rattle.std.specs.Prelude.{ℕ, List, Option, None}
+use Rattle.ig_link.specs.States.{SourceState, SinkState, untold_source, untold_sink}
 use Rattle.ig_link.specs.Gathered.{Gathered, BufferFlushes, BufferWrites}
 use Rattle.ig_link.specs.declared.ends.Gave.{Gave}
 use Rattle.ig_link.specs.declared.tcp_link.TcpLink.{TcpLink}
@@ -9,40 +9,11 @@ use Rattle.ig_link.specs.declared.tcp_link.Wire.TheVariants as wire
 
 -- as a source it counts, and its reads may fail
 abbrev pub tcp_source : {R : Type 0} → TcpLink R → SourceState
-tcp_source link = record {
-  taken = None;
-  left = None;
-  faults = link.read_faults;
-  pauses = link.pauses;
-  ended = link.ended;
-  holds = false;
-  stays_untold = true;
-}
+tcp_source link = untold_source link.read_faults link.pauses link.ended
 
 -- as a sink it counts, and its writes may fail
 abbrev pub tcp_sink : {R : Type 0} → TcpLink R → SinkState
-tcp_sink link = record {
-  written = None;
-  tells = true;
-  faults = link.write_faults;
-  holds = false;
-  stays_untold = true;
-}
-
--- a link that was just made, as a source and as a sink
-abbrev pub new_source : SourceState
-new_source = record {
-  taken = None;
-  left = None;
-  faults = 0;
-  pauses = 0;
-  ended = false;
-  holds = false;
-  stays_untold = true;
-}
-
-abbrev pub new_sink : SinkState
-new_sink = record { written = None; tells = true; faults = 0; holds = false; stays_untold = true }
+tcp_sink link = untold_sink link.write_faults
 
 -- the buffer in which a connection gathers what is written, if it does
 abbrev pub buffer_of : Wire → Option Gathered

@@ -115,13 +115,14 @@ impl Wire {
 }
 
 impl<R: Net<Listener = TcpListener, Stream = TcpStream>> TcpLink<R> {
-    ghost use Rattle.ig_link.specs.TcpLink.{tcp_source, tcp_sink, new_source, new_sink};
+    ghost use Rattle.ig_link.specs.States.{untold_source, untold_sink};
+    ghost use Rattle.ig_link.specs.TcpLink.{tcp_source, tcp_sink};
 
     /// A link to a port of 127.0.0.1. It connects at its first read or write; if the connection is refused,
     /// that call and every later one fails.
     pub fn to(rt: R, port: u16) -> TcpLink<R>
-        ensures source { tcp_source result ≡ new_source }
-        ensures sink { tcp_sink result ≡ new_sink }
+        ensures source { tcp_source result ≡ untold_source 0 0 false }
+        ensures sink { tcp_sink result ≡ untold_sink 0 }
     {
         TcpLink {
             rt,
@@ -135,13 +136,14 @@ impl<R: Net<Listener = TcpListener, Stream = TcpStream>> TcpLink<R> {
 }
 
 impl<R> TcpLink<R> {
-    ghost use Rattle.ig_link.specs.TcpLink.{tcp_source, tcp_sink, new_source, new_sink};
+    ghost use Rattle.ig_link.specs.States.{untold_source, untold_sink};
+    ghost use Rattle.ig_link.specs.TcpLink.{tcp_source, tcp_sink};
 
     /// A link over a connected socket, which gathers what is written. If memory for the buffer is out, it
     /// gathers nothing.
     pub(crate) fn over(rt: R, alloc: Global, stream: TcpStream) -> TcpLink<R>
-        ensures source { tcp_source result ≡ new_source }
-        ensures sink { tcp_sink result ≡ new_sink }
+        ensures source { tcp_source result ≡ untold_source 0 0 false }
+        ensures sink { tcp_sink result ≡ untold_sink 0 }
     {
         TcpLink {
             rt,
