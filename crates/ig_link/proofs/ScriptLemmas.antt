@@ -1,9 +1,9 @@
 -- Steps of a script.
-use Rattle.std.proofs.Common.{◌≡◌, ℕ, ◌+◌, ◌-◌, ◌<◌, ◌^◌, Bool, true, false, not, nat_lt, nat_le, List, [], ◌∷◌, ◌++◌, length, take, drop, get_or, min, Some, if◌then◌else◌, refl, sym, ap, ◌∙◌, subst, arith, length-drop, inl, inr, append_assoc}
+use Rattle.std.proofs.Common.{◌≡◌, ℕ, ◌+◌, ◌-◌, ◌<◌, ◌≤◌, ◌^◌, Bool, true, false, not, nat_lt, nat_le, List, [], ◌∷◌, ◌++◌, length, take, drop, get_or, min, Some, if◌then◌else◌, refl, sym, ap, ◌∙◌, subst, arith, length-drop, inl, inr, append_assoc}
 use Rattle.std.proofs.lemmas.Bool.{cases_lt, false_from_ne_true, true_from_ne_false, le-leb, lt-leb}
 use Rattle.std.proofs.lemmas.List.{drop_more, drop-drop, take-append-drop}
 use Rattle.std.specs.List.{list_any}
-use Rattle.ig_link.specs.States.{Rose}
+use Rattle.ig_link.specs.States.{Rose, SourceAdvances}
 use Rattle.ig_link.specs.ReadsAs.{ReadSome, ReadEnd, ReadFault, ReadsAs}
 use Rattle.ig_link.specs.ReadsNowAs.{ReadPause, ReadsNowAs}
 use Rattle.ig_link.specs.declared.ends.Take.{Take}
@@ -144,6 +144,19 @@ module _ (waits : Bool) (old new : Script) (buf : List ℕ) where
       let later = holds-after_skipped old.written_count waits old.reads none in
       ap not (sym same ∙ ap (list_any may_stop) (sym e) ∙ later)
 
+  script_advances : (bytes : List ℕ) → new.taken ≡ old.taken ++ bytes → bytes_of old.reads ≡ bytes ++ bytes_of new.reads → old.read_faults ≤ new.read_faults → old.pauses ≤ new.pauses
+      → (not (list_any may_stop old.reads) ≡ true → not (list_any may_stop new.reads) ≡ true) → SourceAdvances (script_source old) (script_source new) bytes
+  script_advances bytes taken left faults pauses holds = record {
+    taken = taken;
+    left = left;
+    untold_taken = λ none. cc;
+    untold_left = λ untold none. cc;
+    stays_untold = λ untold. untold;
+    faults = faults;
+    pauses = pauses;
+    holds = holds;
+  }
+
   read_some : (n : ℕ) (s : List ReadStep) → after_skipped old.written_count waits old.reads ≡ s → 0 < length buf → NextRead waits s (now.Bytes n) new.reads buf → ScriptReads waits (now.Bytes n) old new buf
       → ReadSome n (script_source old) (script_source new) buf
   read_some n [] e room to step = let wrong = to.0 in cc
@@ -162,13 +175,7 @@ module _ (waits : Bool) (old new : Script) (buf : List ℕ) where
       record {
         some = omega (arith, size, first_bytes-some old.written_count waits bytes (not_skipped old.written_count waits old.reads (reads.Bytes bytes) steps e), room);
         fits = omega (arith, size);
-        advances = record {
-          taken = step.taken;
-          left = whole;
-          faults = omega (arith, step.counts.0);
-          pauses = omega (arith, step.counts.1);
-          holds = holds_on (reads.Bytes bytes ∷ steps) e (ap (list_any may_stop) (sym after));
-        };
+        advances = script_advances (take n buf) step.taken whole (omega (arith, step.counts.0)) (omega (arith, step.counts.1)) (holds_on (reads.Bytes bytes ∷ steps) e (ap (list_any may_stop) (sym after)));
         was_open = is_open (now.Bytes n) (λ wrong. cc) step;
         is_open = step.counts.2;
         counts = step.counts.0;
@@ -181,26 +188,14 @@ module _ (waits : Bool) (old new : Script) (buf : List ℕ) where
   read_pause (reads.Fault ∷ steps) e to step = let wrong = to.0 in cc
   read_pause (reads.Bytes bytes ∷ steps) e to step = let wrong = to.0 in cc
   read_pause (reads.Pause ∷ steps) e to step = record {
-    advances = record {
-      taken = step.taken;
-      left = sym (bytes_of-after_skipped old.written_count waits old.reads) ∙ ap bytes_of e ∙ ap bytes_of (sym to.1);
-      faults = omega (arith, step.counts.0);
-      pauses = omega (arith, step.counts.1, step.in_range.1);
-      holds = holds_on (reads.Pause ∷ steps) e (ap (list_any may_stop) (sym to.1));
-    };
+    advances = script_advances [] step.taken (sym (bytes_of-after_skipped old.written_count waits old.reads) ∙ ap bytes_of e ∙ ap bytes_of (sym to.1)) (omega (arith, step.counts.0)) (omega (arith, step.counts.1, step.in_range.1)) (holds_on (reads.Pause ∷ steps) e (ap (list_any may_stop) (sym to.1)));
     was_open = is_open now.NotYet (λ wrong. cc) step;
     is_open = step.counts.2;
     counts = step.counts.0;
     rose = subst (Rose old.pauses) (sym step.counts.1) (next_count-rises old.pauses step.in_range.1);
   }
   read_pause (reads.AfterWritten k ∷ steps) e to step = record {
-    advances = record {
-      taken = step.taken;
-      left = sym (bytes_of-after_skipped old.written_count waits old.reads) ∙ ap bytes_of e ∙ ap bytes_of (sym to.1);
-      faults = omega (arith, step.counts.0);
-      pauses = omega (arith, step.counts.1, step.in_range.1);
-      holds = holds_on (reads.AfterWritten k ∷ steps) e (ap (list_any may_stop) (sym to.1));
-    };
+    advances = script_advances [] step.taken (sym (bytes_of-after_skipped old.written_count waits old.reads) ∙ ap bytes_of e ∙ ap bytes_of (sym to.1)) (omega (arith, step.counts.0)) (omega (arith, step.counts.1, step.in_range.1)) (holds_on (reads.AfterWritten k ∷ steps) e (ap (list_any may_stop) (sym to.1)));
     was_open = is_open now.NotYet (λ wrong. cc) step;
     is_open = step.counts.2;
     counts = step.counts.0;
@@ -218,13 +213,7 @@ module _ (waits : Bool) (old new : Script) (buf : List ℕ) where
       let may : list_any may_stop old.reads ≡ true =
       true_from_ne_false (list_any may_stop old.reads) (λ h. let none : true ≡ false = sym (ap (list_any may_stop) e) ∙ holds-after_skipped old.written_count waits old.reads h in cc) in
       record {
-        advances = record {
-          taken = step.taken;
-          left = sym (bytes_of-after_skipped old.written_count waits old.reads) ∙ ap bytes_of e ∙ ap bytes_of (sym to.1);
-          faults = omega (arith, step.counts.0, step.in_range.0);
-          pauses = omega (arith, step.counts.1);
-          holds = λ h. let never : not (list_any may_stop old.reads) ≡ false = ap not may in cc;
-        };
+        advances = script_advances [] step.taken (sym (bytes_of-after_skipped old.written_count waits old.reads) ∙ ap bytes_of e ∙ ap bytes_of (sym to.1)) (omega (arith, step.counts.0, step.in_range.0)) (omega (arith, step.counts.1)) (λ h. let never : not (list_any may_stop old.reads) ≡ false = ap not may in cc);
         was_open = is_open now.Failed (λ wrong. cc) step;
         is_open = step.counts.2;
         pauses = step.counts.1;
@@ -234,13 +223,7 @@ module _ (waits : Bool) (old new : Script) (buf : List ℕ) where
 
   read_over : old.ended ≡ true → ScriptReads waits now.End old new buf → ReadEnd (script_source old) (script_source new)
   read_over ended step = record {
-    advances = record {
-      taken = step.taken;
-      left = ap bytes_of (sym (step.stays ended).1);
-      faults = omega (arith, step.counts.0);
-      pauses = omega (arith, step.counts.1);
-      holds = λ h. ap (λ s. not (list_any may_stop s)) (step.stays ended).1 ∙ h;
-    };
+    advances = script_advances [] step.taken (ap bytes_of (sym (step.stays ended).1)) (omega (arith, step.counts.0)) (omega (arith, step.counts.1)) (λ h. ap (λ s. not (list_any may_stop s)) (step.stays ended).1 ∙ h);
     ended = step.counts.2;
     counts = step.counts.0;
     pauses = step.counts.1;
@@ -251,13 +234,7 @@ module _ (waits : Bool) (old new : Script) (buf : List ℕ) where
   read_end [] e to step =
       let none : bytes_of old.reads ≡ [] = sym (bytes_of-after_skipped old.written_count waits old.reads) ∙ ap bytes_of e in
       record {
-        advances = record {
-          taken = step.taken;
-          left = none ∙ ap bytes_of (sym to.1);
-          faults = omega (arith, step.counts.0);
-          pauses = omega (arith, step.counts.1);
-          holds = holds_on [] e (ap (list_any may_stop) (sym to.1));
-        };
+        advances = script_advances [] step.taken (none ∙ ap bytes_of (sym to.1)) (omega (arith, step.counts.0)) (omega (arith, step.counts.1)) (holds_on [] e (ap (list_any may_stop) (sym to.1)));
         ended = step.counts.2;
         counts = step.counts.0;
         pauses = step.counts.1;
@@ -267,13 +244,7 @@ module _ (waits : Bool) (old new : Script) (buf : List ℕ) where
   read_end (reads.Pause ∷ steps) e to step = let wrong = to.0 in cc
   read_end (reads.Bytes bytes ∷ steps) e to step = let wrong = to.0 in cc
   read_end (reads.AfterWritten k ∷ steps) e to step = record {
-    advances = record {
-      taken = step.taken;
-      left = sym (bytes_of-after_skipped old.written_count waits old.reads) ∙ ap bytes_of e ∙ ap bytes_of (sym to.1);
-      faults = omega (arith, step.counts.0);
-      pauses = omega (arith, step.counts.1);
-      holds = holds_on (reads.AfterWritten k ∷ steps) e (ap (list_any may_stop) (sym to.1));
-    };
+    advances = script_advances [] step.taken (sym (bytes_of-after_skipped old.written_count waits old.reads) ∙ ap bytes_of e ∙ ap bytes_of (sym to.1)) (omega (arith, step.counts.0)) (omega (arith, step.counts.1)) (holds_on (reads.AfterWritten k ∷ steps) e (ap (list_any may_stop) (sym to.1)));
     ended = step.counts.2;
     counts = step.counts.0;
     pauses = step.counts.1;

@@ -1,5 +1,5 @@
 -- What a buffer that gathers bytes for a writer does with them.
-use Rattle.std.specs.Prelude.{◌≡◌, ℕ, ◌≤◌, Bool, true, false, List, [], ◌++◌, take, drop, length, Option}
+use Rattle.std.specs.Prelude.{◌≡◌, ℕ, ◌≤◌, Bool, true, false, List, [], ◌++◌, take, drop, length, Option, Some, None}
 use Rattle.std.specs.Io.KnownBytes.{Appends}
 use Rattle.ig_link.specs.declared.ends.Gave.{Gave}
 use Rattle.ig_link.specs.declared.ends.Gave.TheVariants as gave
@@ -40,7 +40,23 @@ GatheredWrite (gave.Bytes n) before after old new piece =
 GatheredWrite gave.Failed before after old new piece =
     HandsOn before after old.waiting new.waiting × (new.broken ≡ true)
 
--- a write took at least one byte and at most the piece, or failed
-abbrev pub WritesAtLeastOne : Gave → List ℕ → Type 0
-WritesAtLeastOne (gave.Bytes n) piece = (1 ≤ n) × (n ≤ length piece)
-WritesAtLeastOne gave.Failed piece = Unit {0}
+-- What a flush does if bytes are gathered: all that waited was written, or a write failed. Otherwise it
+-- does nothing.
+abbrev pub BufferFlushes : Option (List ℕ) → Option (List ℕ) → Option Gathered → Option Gathered → Type 0
+BufferFlushes before after (Some old) (Some new) = (done : Bool) × GatheredFlush done before after old new
+BufferFlushes before after (Some old) None = ⊥
+BufferFlushes before after None (Some new) = ⊥
+BufferFlushes before after None None = after ≡ before
+
+-- The first n bytes of the piece, at least one, were written, or the write failed and wrote nothing.
+abbrev pub WritesThrough : Gave → Option (List ℕ) → Option (List ℕ) → List ℕ → Type 0
+WritesThrough (gave.Bytes n) before after piece =
+    (1 ≤ n) × (n ≤ length piece) × Appends before after (take n piece)
+WritesThrough gave.Failed before after piece = Appends before after []
+
+-- What a write does: it adds to the buffer if bytes are gathered, and otherwise it writes through.
+abbrev pub BufferWrites : Gave → Option (List ℕ) → Option (List ℕ) → Option Gathered → Option Gathered → List ℕ → Type 0
+BufferWrites answer before after (Some old) (Some new) piece = GatheredWrite answer before after old new piece
+BufferWrites answer before after (Some old) None piece = ⊥
+BufferWrites answer before after None (Some new) piece = ⊥
+BufferWrites answer before after None None piece = WritesThrough answer before after piece

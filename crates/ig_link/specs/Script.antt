@@ -1,5 +1,5 @@
 -- A link in memory, as the script that it follows.
-use Rattle.std.specs.Prelude.{◌≡◌, ℕ, ◌+◌, ◌-◌, ◌^◌, ◌<◌, Bool, true, false, not, nat_lt, List, [], ◌∷◌, ◌++◌, length, take, drop, min, max, Some, if◌then◌else◌}
+use Rattle.std.specs.Prelude.{◌≡◌, ℕ, ◌+◌, ◌-◌, ◌^◌, ◌<◌, ◌≤◌, Bool, true, false, not, nat_lt, List, [], ◌∷◌, ◌++◌, length, take, drop, min, max, Some, if◌then◌else◌}
 use Rattle.std.specs.List.{flat_map, list_any}
 use Rattle.ig_link.specs.States.{SourceState, SinkState}
 use Rattle.ig_link.specs.declared.ends.Take.{Take}
@@ -78,6 +78,7 @@ script_source s = record {
   pauses = s.pauses;
   ended = s.ended;
   holds = not (list_any may_stop s.reads);
+  stays_untold = true;
 }
 
 -- as a sink it tells the bytes written until they overran the room, and its writes hold if no fault
@@ -88,6 +89,7 @@ script_sink s = record {
   tells = not s.overrun;
   faults = s.write_faults;
   holds = not (list_any is_write_fault s.writes);
+  stays_untold = true;
 }
 
 -- A read skips a step of bytes that has none left, a pause if the read waits, and a wait for written
@@ -182,11 +184,12 @@ WriteCounts (gave.Bytes n) old new = new.write_faults ≡ old.write_faults
 WriteCounts gave.Failed old new = new.write_faults ≡ next_count old.write_faults
 
 -- A write answers what the write steps say and leaves the room and all that belongs to reads. What
--- it wrote is added until that is more than there is room for.
+-- it wrote is added exactly until that is more than there is room for.
 pub record ScriptWrites (answer : Gave) (old new : Script) (piece : List ℕ) : Type 0 where
   pub steps : NextWrite old.writes answer new.writes piece
   pub kept : new.overrun ≡ false
       → (old.overrun ≡ false) × (new.written ≡ old.written ++ bytes_written answer piece)
+  pub fits : new.overrun ≡ false → length new.written ≤ new.room
   pub overrun : new.overrun ≡ true → old.overrun ≡ false
       → old.room < length old.written + length (bytes_written answer piece)
   pub written_count : new.written_count

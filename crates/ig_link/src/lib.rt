@@ -14,6 +14,7 @@
 //! [`send_all`] writes a whole piece.
 #![tactic(auto)]
 
+mod connection;
 mod door;
 mod ends;
 mod gathering;

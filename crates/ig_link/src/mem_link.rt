@@ -374,6 +374,10 @@ impl Duplex for MemLink {
     ghost reads_beside = { λ link. refl };
 
     ghost writes_beside = { λ link. refl };
+
+    ghost untold_left = { λ link. refl };
+
+    ghost untold_written = { λ link. refl };
 }
 
 impl Link for MemLink {

@@ -3,44 +3,23 @@
 ghost use Rattle.std.specs.Prelude.{◌≡◌, ◌<◌, ◌≤◌, length, None, false, true};
 ghost use Rattle.std.specs.Io.{ReadsAtMost};
 
+use crate::connection::Connection;
 use crate::ends::{Duplex, Gave, Sink, Source, Take};
 use crate::gathering::Gathering;
 use crate::link::{Link, Retired, TakeNow};
-use crate::pipes::{read_some, write_some};
 use std::alloc::Global;
 use std::io;
 use std::io::ErrorKind;
-use std::net::{Ipv4Addr, Net, Shutdown, TcpListener, TcpStream};
-use std::time::Duration;
+use std::net::{Ipv4Addr, Net, TcpListener, TcpStream};
 
 /// How many written bytes a link that a door opened gathers.
 const ROOM: usize = 64 * 1024;
-
-/// How many microseconds a read that doesn't wait gives the system, which rounds them up to its ticks.
-const SLICE: u64 = 1;
-
-/// How many milliseconds a retired link waits for each further piece from its peer.
-const LINGER: u64 = 20;
-
-/// How many pieces, of at most `LINGER_PIECE` bytes, a retired link takes from its peer.
-const LINGER_PIECES: u32 = 128;
-
-const LINGER_PIECE: usize = 16 * 1024;
-
-/// A connected socket; the buffer in which it gathers what is written, if it does; and whether its reads
-/// wait for a slice alone.
-#[derive(Drop)]
-struct Connection {
-    stream: TcpStream,
-    gathering: Option<Gathering>,
-    sliced: bool,
-}
 
 /// Where a link stands: it is still to connect to this port, it is connected, or it was refused.
 #[derive(Drop)]
 enum Wire {
     Unconnected(u16),
-    Connected(Connection),
+    Connected(Connection<TcpStream>),
     Refused,
 }
 
@@ -67,104 +46,26 @@ pub struct TcpLink<R> {
     ended: bool,
 }
 
-impl Connection {
-    ghost use Rattle.std.specs.Prelude.{◌≡◌, ◌<◌, ◌≤◌, length};
-    ghost use Rattle.std.specs.Io.{ReadsAtMost};
-    ghost use Rattle.ig_link.specs.TcpLink.{IsFlushed, IsBroken};
-    ghost use Rattle.ig_link.specs.Gathered.{WritesAtLeastOne};
-
-    /// A connection over this socket, without delay of small packets.
-    fn new(stream: TcpStream, gathering: Option<Gathering>) -> Connection
-        ensures { result.gathering ≡ gathering }
-    {
-        let _ = stream.set_nodelay(true);
-        Connection {
-            stream,
-            gathering,
-            sliced: false,
-        }
-    }
-
-    /// Hands what was gathered to the socket.
-    fn flush(&mut self)
-        ensures { IsFlushed self.new.gathering }
-    {
-        if let Some(gathering) = &mut self.gathering {
-            let mut writer = &self.stream;
-            let _ = gathering.flush(&mut writer);
-        }
-    }
-
-    /// Hands what was gathered to the socket, and then reads once: a read that waits, or one that waits for
-    /// a slice alone.
-    fn receive(&mut self, buf: &mut [u8], sliced: bool) -> io::Result<usize>
-        ensures bound { ReadsAtMost result buf.new }
-        ensures flushed { IsFlushed self.new.gathering }
-    {
-        self.flush();
-        if self.sliced != sliced {
-            let wait = if sliced {
-                Some(Duration::from_micros(SLICE))
-            } else {
-                None
-            };
-            self.stream.set_read_timeout(wait)?;
-            self.sliced = sliced;
-        }
-        let mut reader = &self.stream;
-        read_some(&mut reader, buf)
-    }
-
-    /// Takes bytes from the start of a piece: gathers them, or writes them to the socket.
-    fn send(&mut self, piece: &[u8]) -> Gave
-        requires { 0 < length piece.now }
-        ensures bound { WritesAtLeastOne result piece.now }
-        ensures broken { IsBroken self.old.gathering → result ≡ Gave.Failed }
-    {
-        let mut writer = &self.stream;
-        match &mut self.gathering {
-            Some(gathering) => gathering.write(&mut writer, piece),
-            None => match write_some(&mut writer, piece) {
-                Ok(n) if n > 0 => Gave::Bytes(n),
-                _ => Gave::Failed,
-            },
-        }
-    }
-
-    /// Closes the sending half, and takes what the peer still sends for a short time.
-    fn linger(&self) {
-        if self.stream.shutdown(Shutdown::Write).is_err()
-            || self
-                .stream
-                .set_read_timeout(Some(Duration::from_millis(LINGER)))
-                .is_err()
-        {
-            return;
-        }
-        let mut unread = [0u8; LINGER_PIECE];
-        let mut reader = &self.stream;
-        for _ in 0..LINGER_PIECES {
-            match read_some(&mut reader, &mut unread) {
-                Ok(n) if n > 0 => {}
-                _ => return,
-            }
-        }
-    }
-}
-
 impl Wire {
     ghost use Rattle.std.specs.Prelude.{◌≡◌, ◌<◌, length};
     ghost use Rattle.std.specs.Io.{ReadsAtMost};
-    ghost use Rattle.ig_link.specs.TcpLink.{buffer_of, IsFlushed, IsBroken};
-    ghost use Rattle.ig_link.specs.Gathered.{WritesAtLeastOne};
+    ghost use Rattle.ig_link.specs.TcpLink.{buffer_of, WireFlushes, WireWrites};
 
-    /// Connects if that is still to be done.
+    /// A connected wire over this socket, without delay of small packets.
+    fn over(stream: TcpStream, gathering: Option<Gathering>) -> Wire
+        ensures { buffer_of result ≡ gathering }
+    {
+        let _ = stream.set_nodelay(true);
+        Wire::Connected(Connection::new(stream, gathering))
+    }
+
+    /// Connects if that is still to be done. A new connection gathers nothing.
     fn connect<R: Net<Listener = TcpListener, Stream = TcpStream>>(&mut self, rt: &R)
-        ensures { IsBroken (buffer_of self.old) → self.new ≡ self.old }
+        ensures { buffer_of self.new ≡ buffer_of self.old }
     {
         if let Wire::Unconnected(port) = self {
             *self = match TcpStream::connect(rt, (Ipv4Addr::LOCALHOST, *port)) {
-                Ok(stream) => Wire::Connected(Connection::new(stream, None)),
+                Ok(stream) => Wire::over(stream, None),
                 Err(_) => Wire::Refused,
             };
         }
@@ -172,7 +73,7 @@ impl Wire {
 
     /// Hands what was gathered to the socket.
     fn flush(&mut self)
-        ensures { IsFlushed (buffer_of self.new) }
+        ensures { WireFlushes self.old self.new }
     {
         if let Wire::Connected(connection) = self {
             connection.flush();
@@ -187,7 +88,7 @@ impl Wire {
         sliced: bool,
     ) -> io::Result<usize>
         ensures bound { ReadsAtMost result buf.new }
-        ensures flushed { IsFlushed (buffer_of self.new) }
+        ensures flushed { WireFlushes self.old self.new }
     {
         self.connect(rt);
         match self {
@@ -203,8 +104,7 @@ impl Wire {
         piece: &[u8],
     ) -> Gave
         requires { 0 < length piece.now }
-        ensures bound { WritesAtLeastOne result piece.now }
-        ensures broken { IsBroken (buffer_of self.old) → result ≡ Gave.Failed }
+        ensures { WireWrites result self.old self.new piece.now }
     {
         self.connect(rt);
         match self {
@@ -215,13 +115,14 @@ impl Wire {
 }
 
 impl<R: Net<Listener = TcpListener, Stream = TcpStream>> TcpLink<R> {
-    ghost use Rattle.ig_link.specs.TcpLink.{tcp_source, tcp_sink, new_source, new_sink};
+    ghost use Rattle.ig_link.specs.States.{untold_source, untold_sink};
+    ghost use Rattle.ig_link.specs.TcpLink.{tcp_source, tcp_sink};
 
     /// A link to a port of 127.0.0.1. It connects at its first read or write; if the connection is refused,
     /// that call and every later one fails.
     pub fn to(rt: R, port: u16) -> TcpLink<R>
-        ensures source { tcp_source result ≡ new_source }
-        ensures sink { tcp_sink result ≡ new_sink }
+        ensures source { tcp_source result ≡ untold_source 0 0 false }
+        ensures sink { tcp_sink result ≡ untold_sink 0 }
     {
         TcpLink {
             rt,
@@ -235,17 +136,18 @@ impl<R: Net<Listener = TcpListener, Stream = TcpStream>> TcpLink<R> {
 }
 
 impl<R> TcpLink<R> {
-    ghost use Rattle.ig_link.specs.TcpLink.{tcp_source, tcp_sink, new_source, new_sink};
+    ghost use Rattle.ig_link.specs.States.{untold_source, untold_sink};
+    ghost use Rattle.ig_link.specs.TcpLink.{tcp_source, tcp_sink};
 
     /// A link over a connected socket, which gathers what is written. If memory for the buffer is out, it
     /// gathers nothing.
-    pub fn over(rt: R, alloc: Global, stream: TcpStream) -> TcpLink<R>
-        ensures source { tcp_source result ≡ new_source }
-        ensures sink { tcp_sink result ≡ new_sink }
+    pub(crate) fn over(rt: R, alloc: Global, stream: TcpStream) -> TcpLink<R>
+        ensures source { tcp_source result ≡ untold_source 0 0 false }
+        ensures sink { tcp_sink result ≡ untold_sink 0 }
     {
         TcpLink {
             rt,
-            wire: Wire::Connected(Connection::new(stream, Some(Gathering::new(alloc, ROOM)))),
+            wire: Wire::over(stream, Some(Gathering::new(alloc, ROOM))),
             read_faults: 0,
             write_faults: 0,
             pauses: 0,
@@ -257,7 +159,7 @@ impl<R> TcpLink<R> {
 impl<R: Net<Listener = TcpListener, Stream = TcpStream>> Source for TcpLink<R> {
     ghost use Rattle.std.specs.Prelude.{◌≡◌, ◌<◌, length};
     ghost use Rattle.ig_link.specs.ReadsAs.{ReadsAs};
-    ghost use Rattle.ig_link.specs.TcpLink.{tcp_source, tcp_sink, buffer_of, IsFlushed};
+    ghost use Rattle.ig_link.specs.TcpLink.{tcp_source, tcp_sink, WireFlushes};
 
     ghost source = { tcp_source };
 
@@ -267,8 +169,8 @@ impl<R: Net<Listener = TcpListener, Stream = TcpStream>> Source for TcpLink<R> {
         requires { 0 < length buf.old }
         ensures answer { ReadsAs result (tcp_source self.old) (tcp_source self.new) buf.new }
         ensures beside { tcp_sink self.new ≡ tcp_sink self.old }
-        // What was gathered was handed to the socket.
-        ensures flushed { IsFlushed (buffer_of self.new.wire) }
+        // What was gathered was handed to the socket, or a write of the socket has failed.
+        ensures flushed { WireFlushes self.old.wire self.new.wire }
     {
         if self.ended {
             self.wire.flush();
@@ -291,7 +193,7 @@ impl<R: Net<Listener = TcpListener, Stream = TcpStream>> Source for TcpLink<R> {
 impl<R: Net<Listener = TcpListener, Stream = TcpStream>> Sink for TcpLink<R> {
     ghost use Rattle.std.specs.Prelude.{◌≡◌, ◌<◌, length};
     ghost use Rattle.ig_link.specs.WritesAs.{WritesAs};
-    ghost use Rattle.ig_link.specs.TcpLink.{tcp_source, tcp_sink, buffer_of, IsBroken};
+    ghost use Rattle.ig_link.specs.TcpLink.{tcp_source, tcp_sink, WireWrites};
 
     ghost sink = { tcp_sink };
 
@@ -301,8 +203,8 @@ impl<R: Net<Listener = TcpListener, Stream = TcpStream>> Sink for TcpLink<R> {
         requires { 0 < length piece.now }
         ensures answer { WritesAs result (tcp_sink self.old) (tcp_sink self.new) piece.now }
         ensures beside { tcp_source self.new ≡ tcp_source self.old }
-        // A write fails if the socket didn't take what was gathered before.
-        ensures broken { IsBroken (buffer_of self.old.wire) → result ≡ Gave.Failed }
+        // The piece was gathered or written; it fails if the socket didn't take what was gathered before.
+        ensures wrote { WireWrites result self.old.wire self.new.wire piece.now }
     {
         match self.wire.send(&self.rt, piece) {
             Gave::Bytes(n) => Gave::Bytes(n),
@@ -320,12 +222,16 @@ impl<R: Net<Listener = TcpListener, Stream = TcpStream>> Duplex for TcpLink<R> {
     ghost reads_beside = { λ link. refl };
 
     ghost writes_beside = { λ link. refl };
+
+    ghost untold_left = { λ link. refl };
+
+    ghost untold_written = { λ link. refl };
 }
 
 impl<R: Net<Listener = TcpListener, Stream = TcpStream> + Drop> Link for TcpLink<R> {
     ghost use Rattle.std.specs.Prelude.{◌≡◌, ◌<◌, length};
     ghost use Rattle.ig_link.specs.ReadsNowAs.{ReadsNowAs};
-    ghost use Rattle.ig_link.specs.TcpLink.{tcp_source, tcp_sink, buffer_of, IsFlushed};
+    ghost use Rattle.ig_link.specs.TcpLink.{tcp_source, tcp_sink, WireFlushes};
 
     type Left = Retired;
 
@@ -333,8 +239,8 @@ impl<R: Net<Listener = TcpListener, Stream = TcpStream> + Drop> Link for TcpLink
         requires { 0 < length buf.old }
         ensures answer { ReadsNowAs result (tcp_source self.old) (tcp_source self.new) buf.new }
         ensures beside { tcp_sink self.new ≡ tcp_sink self.old }
-        // What was gathered was handed to the socket.
-        ensures flushed { IsFlushed (buffer_of self.new.wire) }
+        // What was gathered was handed to the socket, or a write of the socket has failed.
+        ensures flushed { WireFlushes self.old.wire self.new.wire }
     {
         if self.ended {
             self.wire.flush();
