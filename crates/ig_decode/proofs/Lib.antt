@@ -2,3 +2,4 @@ pub mod LoopLemmas
 pub mod TextLemmas
 pub mod PairLemmas
 pub mod DecodeLemmas
+pub mod TextAtLemmas

@@ -1,5 +1,6 @@
 -- The results of the functions that read, compared with reading as a function of lists.
 use Rattle.std.specs.Prelude.{◌≡◌, ℕ, List, Result, Ok, Err}
+use Rattle.ig_decode.specs.declared.fault.Stop.{Stop}
 use Rattle.ig_decode.specs.declared.fault.ReadError.{ReadError}
 use Rattle.ig_decode.specs.declared.fault.ReadError.TheVariants as error
 use Rattle.ig_value.specs.Reading.{Read}
@@ -13,6 +14,11 @@ Fails (error.Fault left cause) read = read ≡ Err (left, cause)
 abbrev pub ReaderAnswers : {X Y : Type 0} → (X → Y × List ℕ) → Result X ReadError → Read Y → Type 0
 ReaderAnswers view (Ok x) read = read ≡ Ok (view x)
 ReaderAnswers view (Err e) read = Fails e read
+
+-- the same of a function that takes no memory
+abbrev pub AnswersWithoutMemory : {X Y : Type 0} → (X → Y × List ℕ) → Result X Stop → Read Y → Type 0
+AnswersWithoutMemory view (Ok x) read = read ≡ Ok (view x)
+AnswersWithoutMemory view (Err stop) read = read ≡ Err (stop.left, stop.cause)
 
 -- the closure's results are those of `build`
 abbrev pub Makes : {A B : Type 0} → (A → B → Type 0) → (A → B) → Type 0

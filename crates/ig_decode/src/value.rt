@@ -8,8 +8,9 @@ ghost use Rattle.ig_decode.specs.ReaderAnswers.{ReaderAnswers};
 use crate::count::{StatedCount, room_for};
 use crate::element::element_at;
 use crate::fault::ReadError;
-use crate::parts::{ReadContent, count_of};
+use crate::parts::ReadContent;
 use crate::rows::{array_row, content_row, element_row, optionals_row};
+use crate::text::count_of;
 use ig_base::{Items, Octets};
 use ig_value::{Cause, Code, Value};
 use std::alloc::Global;
@@ -98,6 +99,7 @@ fn content_of(
         Code::Times => optionals_row(alloc, Code::Time, bytes, Value::Times),
         Code::BinaryEnum => binary_enum_of(bytes),
         Code::Null => Ok((Value::Null, bytes)),
+        Code::Object => Ok((Value::Null, bytes)),
     }
 }
 
