@@ -17,6 +17,8 @@ mod calls;
 mod count;
 mod element;
 mod fault;
+mod layout;
+mod object;
 mod parts;
 mod rows;
 mod text;
