@@ -1,7 +1,7 @@
 //! The header and the footer of a complex object.
 
 ghost use Rattle.std.specs.Prelude.{◌≡◌, ◌<◌, ◌≤◌, ◌↔◌, ◌-◌, ◌/◌, ◌%◌, ℕ, ℤ, pos, true, false, List, None, Some, length, take, drop, IsTrue, IsNone, IfSome, IfOk, IfErr};
-ghost use Rattle.std.specs.Int.{byte_len, from_le_bytes};
+ghost use Rattle.std.specs.Int.{w32, byte_len, cast_signed, from_le_bytes};
 ghost use Rattle.ig_base.specs.Headers.{header_of};
 ghost use Rattle.ig_value.specs.Objects.{kept_flags, checks, first_wrong, is_uneven, width_flag};
 ghost use Rattle.ig_value.specs.Reading.{alone};
@@ -288,11 +288,31 @@ fn ids_in(alloc: Global, form: Footer, footer: &[u8]) -> Result<Items<i32>, Allo
     let mut ids = room_for(alloc, count.room(footer), footer)?;
     let (mut left, mut entries) = (count, footer);
     'each: while left.take_one() {
-        let (entry, more) = entries.split_at(entry_len(form));
-        ids.push(i32::from_le_bytes([entry[0], entry[1], entry[2], entry[3]]))?;
+        let (id, more) = take_id(form, entries);
+        ids.push(id)?;
         entries = more;
     }
     Ok(Items::new(ids))
+}
+
+/// The identifier in the first entry, and the entries after it.
+fn take_id(form: Footer, entries: &[u8]) -> (i32, &[u8])
+    requires named { form.compact ≡ false }
+    requires there { entry_bytes form ≤ length entries.now }
+    ensures id { result.0 ≡ cast_signed w32 (from_le_bytes w32 (take 4 entries.now)) }
+    ensures more { result.1.now ≡ drop (entry_bytes form) entries.now }
+{
+    let (id, offset) = entries.split_at(key_len(form));
+    let (_, more) = offset.split_at(width_len(form));
+    (id_in(id), more)
+}
+
+/// The identifier with these bytes.
+fn id_in(bytes: &[u8]) -> i32
+    requires { length bytes.now ≡ 4 }
+    ensures { result ≡ cast_signed w32 (from_le_bytes w32 bytes.now) }
+{
+    i32::from_le_bytes([bytes[0], bytes[1], bytes[2], bytes[3]])
 }
 
 // ---- what isn't in the header of a canonical form
