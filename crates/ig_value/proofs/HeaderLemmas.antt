@@ -72,10 +72,10 @@ int_same x y e = (Decides-int_eq x y).0 e
 int_other : (x y : ℤ) → int_eq x y ≡ false → x ≢ y
 int_other x y e same = both_ways (int_eq x y) e ((Decides-int_eq x y).1 same)
 
-int_same_back : (x y : ℤ) → x ≡ y → int_eq x y ≡ true
+pub int_same_back : (x y : ℤ) → x ≡ y → int_eq x y ≡ true
 int_same_back x y same = (Decides-int_eq x y).1 same
 
-int_other_by : (x y : ℤ) (b : Bool) → int_eq x y ≡ b → x ≢ y → int_eq x y ≡ false
+pub int_other_by : (x y : ℤ) (b : Bool) → int_eq x y ≡ b → x ≢ y → int_eq x y ≡ false
 int_other_by x y true is other = absurd (other (int_same x y is))
 int_other_by x y false is other = is
 
