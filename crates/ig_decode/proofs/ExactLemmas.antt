@@ -5,7 +5,7 @@ use Rattle.std.proofs.lemmas.List.{take_at, drop_at, append-nil}
 use Rattle.ig_decode.specs.Exactness.{KeepsExact}
 
 -- two parts are two others, none of them longer, only if each is the other
-same_parts : (p q f g : List ℕ) → length f ≤ length p → length g ≤ length q → p ++ q ≡ f ++ g → (p ≡ f) × (q ≡ g)
+pub same_parts : (p q f g : List ℕ) → length f ≤ length p → length g ≤ length q → p ++ q ≡ f ++ g → (p ≡ f) × (q ≡ g)
 same_parts p q f g a b e =
     let len : length f ≡ length p = omega (arith, a, b, ap length e, length-append p q, length-append f g) in
     (sym (take_at p q (length p) refl) ∙ ap (take (length p)) e ∙ take_at f g (length p) len, sym (drop_at p q (length p) refl) ∙ ap (drop (length p)) e ∙ drop_at f g (length p) len)

@@ -79,7 +79,8 @@ module _ (inner : List ℕ → Read Value) (w : Width) (key : ℕ) (fields foote
   pub field_stops : (front : List Value) (n n' : ℕ) (entries more rest : List ℕ) (offset : ℕ) (left : ℕ) (c : Cause) (total : Result (List Value) Fault) → n ≡ suc n' → offset ≡ from_le_bytes w (take (byte_len w) (drop key entries)) →
       more ≡ drop (key + byte_len w) entries → offset ≡ 24 + length fields - length rest → inner rest ≡ Err (left, c) → with_fields front (fields_left n entries rest) ≡ total → total ≡ Err (24 + length fields - left, c)
   field_stops front n n' entries more rest offset left c total k is later right read so_far =
-      sym so_far ∙ ap (with_fields front) (taken n n' entries more rest offset k is later ∙ here offset (key + byte_len w) (place_in entries) (24 + length fields) (offsets_of w key n' more) rest right ∙ rw read refl)
+      let stops : (turned (24 + length fields) (inner rest) >>= λ x. laid_at inner (key + byte_len w) (place_in entries + (key + byte_len w)) (24 + length fields) (offsets_of w key n' more) x.1 >>= λ xs. Ok (x.0 ∷ xs)) ≡ Err (24 + length fields - left, c) = rw read refl in
+      sym so_far ∙ ap (with_fields front) (taken n n' entries more rest offset k is later ∙ here offset (key + byte_len w) (place_in entries) (24 + length fields) (offsets_of w key n' more) rest right ∙ stops)
 
   pub field_fails : (e : ReadError) (front : List Value) (n n' : ℕ) (entries more rest : List ℕ) (offset after : ℕ) (total : Result (List Value) Fault) → n ≡ suc n' → offset ≡ from_le_bytes w (take (byte_len w) (drop key entries)) →
       more ≡ drop (key + byte_len w) entries → offset ≡ 24 + length fields - length rest → Fails e (inner rest) → ((left : ℕ) (c : Cause) → inner rest ≡ Err (left, c) → left ≤ length fields) → with_fields front (fields_left n entries rest) ≡ total →
@@ -107,7 +108,9 @@ module _ (inner : List ℕ → Read Value) (w : Width) (key : ℕ) (fields foote
       ap (turned (24 + length fields + length footer + after)) stops ∙ ap (λ (m : ℕ). Err (m, cause.Offset)) place
 
   pub all_fields : (front : List Value) (n : ℕ) (entries rest : List ℕ) (m : ℕ) (total : Result (List Value) Fault) → n ≡ 0 → rest ≡ [] → with_fields front (fields_left n entries rest) ≡ total → turned m total ≡ Ok front
-  all_fields front n entries rest m total k nil so_far = ap (turned m) (sym so_far ∙ rw (k, nil) (ap (λ (l : List Value). Ok l) (append-nil front)))
+  all_fields front n entries rest m total k nil so_far =
+      let all : with_fields front (fields_left n entries rest) ≡ Ok front = rw (k, nil) (ap (λ (l : List Value). Ok l) (append-nil front)) in
+      ap (turned m) (sym so_far ∙ all)
 
   -- before the first
   pub no_field : (n : ℕ) → with_fields [] (fields_left n footer fields) ≡ laid_at inner (key + byte_len w) (24 + length fields + key) (24 + length fields) (offsets_of w key n footer) fields

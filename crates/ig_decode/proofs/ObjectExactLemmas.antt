@@ -93,7 +93,7 @@ kept_small flags lt = (omega (arith, lt), omega arith)
 
 -- ---- an object with fields
 
-record IsRead (levels : ℕ) (s : List ℕ) (header : Header) (fields footer rest : List ℕ) (shape : Shape) (offsets : List ℕ) (xs : List Value) : Type 0 where
+pub record IsRead (levels : ℕ) (s : List ℕ) (header : Header) (fields footer rest : List ℕ) (shape : Shape) (offsets : List ℕ) (xs : List Value) : Type 0 where
   pub begins : header_of s ≡ Some header
   pub whole : s ≡ (103 ∷ header_bytes header) ++ ((fields ++ footer) ++ rest)
   pub numbers : HeaderFits header

@@ -52,6 +52,10 @@ pub row_exact : {X : Type 0} (c : Code) → IsPlain c → (s whole : List ℕ) �
 row_exact c plain s whole bytes is view (Ok x) e b = plain_exact b whole (Canon (view x).0) (view x).1 (is ∙ row_taken c plain s (view x).0 (view x).1 bytes e)
 row_exact c plain s whole bytes is view (Err f) e b = tt
 
+pub arm_exact : {X : Type 0} (k c : Code) → IsPlain c → k ≡ c → (s whole : List ℕ) → AreBytes s → whole ≡ byte_of k ∷ s → (view : X → Value × List ℕ) (result : Result X ReadError) → ReaderAnswers view result (content_at (value_at 0) c s) → (b : Bool)
+    → IfOk result (λ x. KeepsExact b b whole (Canon (view x).0) (view x).1)
+arm_exact k c plain is s whole bytes starts view result e b = row_exact c plain s whole bytes (starts ∙ ap (λ (d : Code). byte_of d ∷ s) is) view result e b
+
 -- ---- rows with values inside
 
 -- as many were read as were asked for
@@ -124,3 +128,7 @@ inside_exact levels c s whole is view (Ok x) e a b k =
     let coded = coded_exact a b (byte_of c) s (drop 1 (Canon (view x).0)) (view x).1 k in
     subst (λ (l : List ℕ). KeepsExact a b whole l (view x).1) back (subst (λ (l : List ℕ). KeepsExact a b l (byte_of c ∷ drop 1 (Canon (view x).0)) (view x).1) (sym is) coded)
 inside_exact levels c s whole is view (Err f) e a b k = tt
+
+pub arm_inside : {X : Type 0} (levels : ℕ) (k c : Code) → k ≡ c → (s whole : List ℕ) → whole ≡ byte_of k ∷ s → (view : X → Value × List ℕ) (result : Result X ReadError) → ReaderAnswers view result (content_at (value_at levels) c s) → (a b : Bool)
+    → IfOk result (λ x. KeepsExact a b s (drop 1 (Canon (view x).0)) (view x).1) → IfOk result (λ x. KeepsExact a b whole (Canon (view x).0) (view x).1)
+arm_inside levels k c is s whole starts view result e a b h = inside_exact levels c s whole (starts ∙ ap (λ (d : Code). byte_of d ∷ s) is) view result e a b h

@@ -2,7 +2,7 @@
 
 ghost use Rattle.std.specs.Prelude.{◌≡◌, ◌<◌, ◌≤◌, ◌↔◌, ◌-◌, ◌/◌, ◌%◌, ℕ, ℤ, pos, true, false, List, None, Some, length, take, drop, IsTrue, IsNone, IfSome, IfOk, IfErr};
 ghost use Rattle.std.specs.Int.{w32, byte_len, cast_signed, from_le_bytes};
-ghost use Rattle.ig_base.specs.Headers.{header_of};
+ghost use Rattle.ig_base.specs.Headers.{header_bytes, header_of};
 ghost use Rattle.ig_value.specs.Objects.{kept_flags, checks, first_wrong, is_uneven, width_flag};
 ghost use Rattle.ig_value.specs.Reading.{alone};
 ghost use Rattle.ig_decode.specs.FooterForms.{offsets_type, key_bytes, entry_bytes, IsFormOf};
@@ -89,6 +89,7 @@ fn offset_in(form: Footer, bytes: &[u8]) -> usize
 /// The header of an object, if its bytes are there.
 pub(crate) fn header_at(bytes: &[u8]) -> Result<Header, Stop>
     ensures found { IfOk result (λ header. header_of bytes.now ≡ Some header) }
+    ensures spelled { IfOk result (λ header. header_bytes header ≡ take 23 (drop 1 bytes.now)) }
     ensures stopped { IfErr result (StopsBeforeFields bytes.now) }
 {
     match read_header(bytes) {
