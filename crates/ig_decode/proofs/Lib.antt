@@ -9,3 +9,4 @@ pub mod ObjectAtLemmas
 pub mod FieldsLemmas
 pub mod PartsLemmas
 pub mod ObjectExactLemmas
+pub mod ReadLemmas

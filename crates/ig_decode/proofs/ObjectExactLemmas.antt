@@ -72,11 +72,11 @@ full_bytes bits type shape (x ∷ xs) some = refl
 some_is : {A : Type 0} (x y : A) → (let a : Option A = Some x in a) ≡ Some y → x ≡ y
 some_is x y e = cc
 
-compact_flag_by : (compact : Bool) (schema : ℤ) (ids : List ℤ) → compact_flag (cond compact (Compact schema) (Named ids)) ≡ cond compact 32 0
+pub compact_flag_by : (compact : Bool) (schema : ℤ) (ids : List ℤ) → compact_flag (cond compact (Compact schema) (Named ids)) ≡ cond compact 32 0
 compact_flag_by true schema ids = refl
 compact_flag_by false schema ids = refl
 
-schema_by : (compact : Bool) (schema : ℤ) (ids : List ℤ) → (compact ≡ false → schema ≡ schema_of ids) → canonical_schema (cond compact (Compact schema) (Named ids)) ≡ schema
+pub schema_by : (compact : Bool) (schema : ℤ) (ids : List ℤ) → (compact ≡ false → schema ≡ schema_of ids) → canonical_schema (cond compact (Compact schema) (Named ids)) ≡ schema
 schema_by true schema ids right = refl
 schema_by false schema ids right = sym (right refl)
 
