@@ -109,39 +109,18 @@ fn refusals_name_the_offset(rt: HostRuntime) -> Result<(), Fail> {
     Ok(())
 }
 
-/// An object of the type 112 whose field 97 is the int 5.
-static ONE_FIELD: [u8; 34] = [
-    0x67, 1, 0x0B, 0, 0x70, 0, 0, 0, 0xFD, 0x64, 0xE1, 1, 0x22, 0, 0, 0, 0xE4, 0xD3, 0xE1, 0xF5,
-    0x1D, 0, 0, 0, 3, 5, 0, 0, 0, 0x61, 0, 0, 0, 0x18,
-];
-
-/// The same with an offset of two bytes, and without its hash.
-static WIDE: [u8; 35] = [
-    0x67, 1, 0x13, 0, 0x70, 0, 0, 0, 0, 0, 0, 0, 0x23, 0, 0, 0, 0xE4, 0xD3, 0xE1, 0xF5, 0x1D, 0, 0,
-    0, 3, 5, 0, 0, 0, 0x61, 0, 0, 0, 0x18, 0,
-];
-
-/// A header alone, and one with flags and an offset that nobody needs.
-static ALONE: [u8; 24] = [
-    0x67, 1, 1, 0, 0x70, 0, 0, 0, 1, 0, 0, 0, 0x18, 0, 0, 0, 0, 0, 0, 0, 0, 0, 0, 0,
-];
-static IDLE: [u8; 24] = [
-    0x67, 1, 3, 0, 0x70, 0, 0, 0, 0, 0, 0, 0, 0x18, 0, 0, 0, 0, 0, 0, 0, 0x18, 0, 0, 0,
-];
-
-/// A person whose fields are Ann and 30, after a compact footer's schema.
-static COMPACT: [u8; 39] = [
-    0x67, 1, 0x2B, 0, 0x55, 0x9B, 0xE3, 0xC4, 0xC9, 0xCC, 0x94, 0x32, 0x27, 0, 0, 0, 5, 0xA9, 0,
-    0x74, 0x25, 0, 0, 0, 9, 3, 0, 0, 0, 0x41, 0x6E, 0x6E, 3, 0x1E, 0, 0, 0, 0x18, 0x20,
-];
-
 /// Objects, and whether they are canonical.
 static OBJECTS: [(&[u8], bool); 5] = [
-    (&ONE_FIELD, true),
-    (&WIDE, false),
-    (&ALONE, true),
-    (&IDLE, false),
-    (&COMPACT, true),
+    // Of the type 112, whose field 97 is the int 5.
+    (&[0x67, 1, 0x0B, 0, 0x70, 0, 0, 0, 0xFD, 0x64, 0xE1, 1, 0x22, 0, 0, 0, 0xE4, 0xD3, 0xE1, 0xF5, 0x1D, 0, 0, 0, 3, 5, 0, 0, 0, 0x61, 0, 0, 0, 0x18], true),
+    // The same with an offset of two bytes, and without its hash.
+    (&[0x67, 1, 0x13, 0, 0x70, 0, 0, 0, 0, 0, 0, 0, 0x23, 0, 0, 0, 0xE4, 0xD3, 0xE1, 0xF5, 0x1D, 0, 0, 0, 3, 5, 0, 0, 0, 0x61, 0, 0, 0, 0x18, 0], false),
+    // A header alone.
+    (&[0x67, 1, 1, 0, 0x70, 0, 0, 0, 1, 0, 0, 0, 0x18, 0, 0, 0, 0, 0, 0, 0, 0, 0, 0, 0], true),
+    // The same with flags and an offset that it needn't have.
+    (&[0x67, 1, 3, 0, 0x70, 0, 0, 0, 0, 0, 0, 0, 0x18, 0, 0, 0, 0, 0, 0, 0, 0x18, 0, 0, 0], false),
+    // A person, Ann and 30, with a compact footer.
+    (&[0x67, 1, 0x2B, 0, 0x55, 0x9B, 0xE3, 0xC4, 0xC9, 0xCC, 0x94, 0x32, 0x27, 0, 0, 0, 5, 0xA9, 0, 0x74, 0x25, 0, 0, 0, 9, 3, 0, 0, 0, 0x41, 0x6E, 0x6E, 3, 0x1E, 0, 0, 0, 0x18, 0x20], true),
 ];
 
 /// A byte of the first object, what is put in its place, and the refusal of what comes out.
@@ -174,11 +153,12 @@ fn wrong_object(alloc: Global) -> Option<usize> {
 }
 
 /// The first change whose refusal is another one.
-fn wrong_change(alloc: Global) -> Option<usize> {
+fn wrong_change(alloc: Global) -> Result<Option<usize>, AllocError> {
+    let (object, _) = OBJECTS[0];
     for (row, (at, byte, place, cause)) in CHANGES.iter().enumerate() {
-        let mut bytes = ONE_FIELD;
+        let mut bytes = Vec::from_slice(alloc, object)?;
         let Some(changed) = bytes.get_mut(*at) else {
-            return Some(row);
+            return Ok(Some(row));
         };
         *changed = *byte;
         let wanted = DecodeFault::Refused(Refusal {
@@ -187,23 +167,24 @@ fn wrong_change(alloc: Global) -> Option<usize> {
         });
         match decode(alloc, &bytes) {
             Err(fault) if fault == wanted => {}
-            _ => return Some(row),
+            _ => return Ok(Some(row)),
         }
     }
-    None
+    Ok(None)
 }
 
 #[test]
 fn objects(rt: HostRuntime) -> Result<(), Fail> {
     assert_eq!(rt; wrong_object(rt.alloc()), None);
-    assert_eq!(rt; wrong_change(rt.alloc()), None);
-    let read = decode(rt.alloc(), &WIDE).ok().ok_or("an object")?;
+    assert_eq!(rt; wrong_change(rt.alloc())?, None);
+    let (wide, _) = OBJECTS[1];
+    let read = decode(rt.alloc(), wide).ok().ok_or("an object")?;
     let Value::Object(object) = read.value else {
         return Err("an object".into());
     };
     let object = object.get();
     assert_eq!(rt; (object.bits, object.type_id), (1, 112));
-    assert!(rt; matches!(&object.shape, Shape::Named(ids) if ids.as_slice() == [97]));
+    assert!(rt; matches!(&object.shape, Shape::Named(ids) if ids.as_slice() == [97].as_slice()));
     assert!(rt; matches!(object.fields.as_slice(), [Value::Int(5)]));
     Ok(())
 }
