@@ -80,3 +80,6 @@ pub room_left : (entry left left' : ℕ) (entries more : List ℕ) → left ≡ 
 room_left entry left left' entries more k is there =
     let all : left' * entry + entry ≤ length entries = omega (arith, rw k at there, more_entries left' entry) in
     omega (arith, all, ap length is, length-drop entry entries)
+
+pub room_for_one : (entry left left' : ℕ) (entries : List ℕ) → left ≡ suc left' → left * entry ≤ length entries → entry ≤ length entries
+room_for_one entry left left' entries k there = omega (arith, rw k at there, more_entries left' entry)

@@ -8,6 +8,7 @@ use Rattle.std.proofs.lemmas.Nat.{div-add-mod'}
 use Rattle.ig_base.specs.Numbers.{AreBytes}
 use Rattle.ig_base.specs.Headers.{has_flag, header_bytes, header_of}
 use Rattle.ig_base.specs.declared.header.Header.{Header}
+use Rattle.ig_value.specs.declared.Cause.{Cause}
 use Rattle.ig_value.specs.declared.Code.TheVariants as code
 use Rattle.ig_value.specs.declared.object.Record.{Record}
 use Rattle.ig_value.specs.declared.object.Shape.{Shape}
@@ -19,7 +20,7 @@ use Rattle.ig_value.specs.Objects.{kept_flags, schema_of, offset_type, key_len, 
 use Rattle.ig_value.specs.Spells.{SpellsTo}
 use Rattle.ig_value.specs.Stops.{StopsTo}
 use Rattle.ig_value.specs.Reading.{Read, mapped_read, object_at, value_at}
-use Rattle.ig_value.proofs.AgreesLemmas.{AreBytes-take, AreBytes-drop}
+use Rattle.ig_value.proofs.AgreesLemmas.{AreBytes-take, AreBytes-drop, AreBytes-suffix}
 use Rattle.ig_value.proofs.FooterLemmas.{footer_back, offsets_len}
 use Rattle.ig_value.proofs.HeaderLemmas.{right_from}
 use Rattle.ig_value.proofs.LaidLemmas.{turned_ok, laid_takes}
@@ -27,6 +28,9 @@ use Rattle.ig_value.proofs.SpelledLemmas.{spelled_least}
 use Rattle.ig_value.proofs.SpelledObjectLemmas.{header_fits, schema_fits, laid_count}
 use Rattle.ig_value.proofs.ValueLemmas.{value_agrees}
 use Rattle.ig_decode.specs.declared.layout.Layout.{Layout}
+use Rattle.ig_decode.specs.declared.fault.ReadError.{ReadError}
+use Rattle.ig_decode.specs.declared.fault.ReadError.TheVariants as error
+use Rattle.ig_decode.specs.ReaderAnswers.{Fails, MayBeFollowed}
 use Rattle.ig_decode.specs.Exactness.{KeepsExact}
 use Rattle.ig_decode.specs.FooterForms.{offsets_type, key_bytes, entry_bytes, footer_offsets, last_offset}
 use Rattle.ig_decode.specs.FieldsAnswers.{fields_reading}
@@ -34,6 +38,20 @@ use Rattle.ig_decode.specs.ObjectAnswers.{footer_ids, IsLayout, IsCanonicalAlone
 use Rattle.ig_decode.proofs.ObjectExactLemmas.{IsRead, compact_flag_by, schema_by, object_exact, alone_exact}
 use Rattle.ig_decode.proofs.PartsLemmas.{key_is, entry_is, fields_len, footer_len, whole_len, object_read}
 use Rattle.ig_decode.proofs.RowExactLemmas.{row_form}
+
+-- ---- faults of fields
+
+-- a fault leaves no more bytes than there are
+pub field_left : (levels : ℕ) (a b : Bool) (fields form rest : List ℕ) → KeepsExact a b fields form rest → AreBytes fields → (left : ℕ) (c : Cause) → value_at levels rest ≡ Err (left, c) → left ≤ length fields
+field_left levels a b fields form rest k bytes left c e =
+    let h = (value_agrees levels).halts rest left c (AreBytes-suffix fields k.prefix rest k.whole bytes) e in
+    omega (arith, h.there, ap length k.whole, length-append k.prefix rest)
+
+pub may_follow : (e : ReadError) (levels : ℕ) (rest : List ℕ) (bound more : ℕ) → Fails e (value_at levels rest) → ((left : ℕ) (c : Cause) → value_at levels rest ≡ Err (left, c) → left ≤ bound) → bound + more < 2 ^ 64 → MayBeFollowed more e
+may_follow error.NoMemory levels rest bound more fails within small = tt
+may_follow (error.Fault left c) levels rest bound more fails within small = omega (arith, within left c fails, small)
+
+-- ---- objects
 
 -- the bytes of an object, from its code on
 header_first : (s : List ℕ) (header : Header) → s ≡ 103 ∷ drop 1 s → header_bytes header ≡ take 23 (drop 1 s) → s ≡ (103 ∷ header_bytes header) ++ drop 24 s

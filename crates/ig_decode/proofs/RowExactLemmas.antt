@@ -1,7 +1,9 @@
 -- Rows of the table of values: whether bytes were in the canonical form.
 use Rattle.std.proofs.Common.{◌≡◌, ℕ, zero, suc, pos, ℤ, Bool, List, [], ◌∷◌, ◌++◌, length, drop, Result, Ok, Err, refl, sym, ap, subst, ◌∙◌, arith}
-use Rattle.std.specs.Prelude.{IfOk}
-use Rattle.std.specs.Int.{w8, w32}
+use Rattle.std.specs.Prelude.{IfOk, FitsSigned}
+use Rattle.std.specs.Int.{Width, w8, w32}
+use Rattle.std.proofs.Common.{to_z, of_z}
+use Rattle.std.proofs.lemmas.Int.{to_z-of_z}
 use Rattle.std.specs.List.{flat_map}
 use Rattle.ig_base.specs.Numbers.{AreBytes, LE}
 use Rattle.ig_value.specs.declared.Code.{Code}
@@ -10,7 +12,7 @@ use Rattle.ig_value.specs.declared.Value.{Value}
 use Rattle.ig_value.specs.declared.Value.TheVariants as value
 use Rattle.ig_value.specs.Part.{Scalar, ScalarValue, i8, i32, Content}
 use Rattle.ig_value.specs.Table.{byte_of, content, value_with}
-use Rattle.ig_value.specs.Spells.{SpellsTo, scalar_bytes}
+use Rattle.ig_value.specs.Spells.{SpellsTo, scalar_bytes, IsInRange}
 use Rattle.ig_value.specs.Stops.{StopsTo}
 use Rattle.ig_value.specs.Canon.{Canon, part_bytes}
 use Rattle.ig_value.specs.Reading.{Read, ◌>>=◌, scalar_at, count_at, many_at, part_at, content_at, value_at}
@@ -94,28 +96,43 @@ typed_exact h one a b s r1 r2 r3 type n items bytes scalar count many k =
     let all = both_exact a a b s (LE w32 type) r1 (LE w32 (pos n) ++ flat_map h items) r3 typed (both_exact a a b r1 (LE w32 (pos n)) r2 (flat_map h items) r3 head k) in
     subst (λ (m : ℕ). KeepsExact a b s (LE w32 type ++ (LE w32 (pos m) ++ flat_map h items)) r3) (sym (many_len one n r2 items r3 many)) all
 
+-- a signed number as it reaches a value
+same_number : (w : Width) (z : ℤ) → FitsSigned w z → z ≡ to_z w (of_z w z)
+same_number w z fits = sym (to_z-of_z w z fits)
+
+scalar_range : (k : Scalar) (s : List ℕ) (x : ScalarValue k) (rest : List ℕ) → AreBytes s → scalar_at k s ≡ Ok (x, rest) → IsInRange k x
+scalar_range k s x rest bytes e = ((scalar_agrees k).takes s x rest bytes e).right.0
+
 after_code : (v : Value) (byte : ℕ) (form : List ℕ) → Canon v ≡ byte ∷ form → form ≡ drop 1 (Canon v)
 after_code v byte form e = sym (ap (drop 1) e)
 
 pub collection_exact : (levels : ℕ) (a b : Bool) (s r1 r2 r3 : List ℕ) (n : ℕ) (kind : ℤ) (items : List Value) → AreBytes s → count_at s ≡ Ok (n, r1) → scalar_at i8 r1 ≡ Ok (kind, r2) → many_at (value_at levels) n r2 ≡ Ok (items, r3) →
-    KeepsExact a b r2 (flat_map Canon items) r3 → KeepsExact a b s (drop 1 (Canon (value.Collection kind items))) r3
+    KeepsExact a b r2 (flat_map Canon items) r3 → KeepsExact a b s (drop 1 (Canon (value.Collection (to_z w8 (of_z w8 kind)) items))) r3
 collection_exact levels a b s r1 r2 r3 n kind items bytes count scalar many k =
-    subst (λ (l : List ℕ). KeepsExact a b s l r3) (after_code (value.Collection kind items) 24 _ (row_form code.Collection (kind, items))) (kinded_exact Canon (value_at levels) a b s r1 r2 r3 n kind items bytes count scalar many k)
+    let range = scalar_range i8 r1 kind r2 (AreBytes-rest a a s (LE w32 (pos n)) r1 (count_exact a s n r1 bytes count) bytes) scalar in
+    subst (λ (z : ℤ). KeepsExact a b s (drop 1 (Canon (value.Collection z items))) r3) (same_number w8 kind range)
+    (subst (λ (l : List ℕ). KeepsExact a b s l r3) (after_code (value.Collection kind items) 24 _ (row_form code.Collection (kind, items))) (kinded_exact Canon (value_at levels) a b s r1 r2 r3 n kind items bytes count scalar many k))
 
 pub map_exact : (one : List ℕ → Read (Value × Value)) (a b : Bool) (s r1 r2 r3 : List ℕ) (n : ℕ) (kind : ℤ) (pairs : List (Value × Value)) → AreBytes s → count_at s ≡ Ok (n, r1) → scalar_at i8 r1 ≡ Ok (kind, r2) → many_at one n r2 ≡ Ok (pairs, r3) →
-    KeepsExact a b r2 (flat_map (λ p. Canon p.0 ++ Canon p.1) pairs) r3 → KeepsExact a b s (drop 1 (Canon (value.Map kind pairs))) r3
+    KeepsExact a b r2 (flat_map (λ p. Canon p.0 ++ Canon p.1) pairs) r3 → KeepsExact a b s (drop 1 (Canon (value.Map (to_z w8 (of_z w8 kind)) pairs))) r3
 map_exact one a b s r1 r2 r3 n kind pairs bytes count scalar many k =
-    subst (λ (l : List ℕ). KeepsExact a b s l r3) (after_code (value.Map kind pairs) 25 _ (row_form code.Map (kind, pairs))) (kinded_exact (λ p. Canon p.0 ++ Canon p.1) one a b s r1 r2 r3 n kind pairs bytes count scalar many k)
+    let range = scalar_range i8 r1 kind r2 (AreBytes-rest a a s (LE w32 (pos n)) r1 (count_exact a s n r1 bytes count) bytes) scalar in
+    subst (λ (z : ℤ). KeepsExact a b s (drop 1 (Canon (value.Map z pairs))) r3) (same_number w8 kind range)
+    (subst (λ (l : List ℕ). KeepsExact a b s l r3) (after_code (value.Map kind pairs) 25 _ (row_form code.Map (kind, pairs))) (kinded_exact (λ p. Canon p.0 ++ Canon p.1) one a b s r1 r2 r3 n kind pairs bytes count scalar many k))
 
 pub objects_exact : (levels : ℕ) (a b : Bool) (s r1 r2 r3 : List ℕ) (type : ℤ) (n : ℕ) (items : List Value) → AreBytes s → scalar_at i32 s ≡ Ok (type, r1) → count_at r1 ≡ Ok (n, r2) → many_at (value_at levels) n r2 ≡ Ok (items, r3) →
-    KeepsExact a b r2 (flat_map Canon items) r3 → KeepsExact a b s (drop 1 (Canon (value.Objects type items))) r3
+    KeepsExact a b r2 (flat_map Canon items) r3 → KeepsExact a b s (drop 1 (Canon (value.Objects (to_z w32 (of_z w32 type)) items))) r3
 objects_exact levels a b s r1 r2 r3 type n items bytes scalar count many k =
-    subst (λ (l : List ℕ). KeepsExact a b s l r3) (after_code (value.Objects type items) 23 _ (row_form code.Objects (type, (tt, items)))) (typed_exact Canon (value_at levels) a b s r1 r2 r3 type n items bytes scalar count many k)
+    let range = scalar_range i32 s type r1 bytes scalar in
+    subst (λ (z : ℤ). KeepsExact a b s (drop 1 (Canon (value.Objects z items))) r3) (same_number w32 type range)
+    (subst (λ (l : List ℕ). KeepsExact a b s l r3) (after_code (value.Objects type items) 23 _ (row_form code.Objects (type, (tt, items)))) (typed_exact Canon (value_at levels) a b s r1 r2 r3 type n items bytes scalar count many k))
 
 pub enums_exact : (levels : ℕ) (a b : Bool) (s r1 r2 r3 : List ℕ) (type : ℤ) (n : ℕ) (items : List Value) → AreBytes s → scalar_at i32 s ≡ Ok (type, r1) → count_at r1 ≡ Ok (n, r2) → many_at (value_at levels) n r2 ≡ Ok (items, r3) →
-    KeepsExact a b r2 (flat_map Canon items) r3 → KeepsExact a b s (drop 1 (Canon (value.Enums type items))) r3
+    KeepsExact a b r2 (flat_map Canon items) r3 → KeepsExact a b s (drop 1 (Canon (value.Enums (to_z w32 (of_z w32 type)) items))) r3
 enums_exact levels a b s r1 r2 r3 type n items bytes scalar count many k =
-    subst (λ (l : List ℕ). KeepsExact a b s l r3) (after_code (value.Enums type items) 29 _ (row_form code.Enums (type, (tt, items)))) (typed_exact Canon (value_at levels) a b s r1 r2 r3 type n items bytes scalar count many k)
+    let range = scalar_range i32 s type r1 bytes scalar in
+    subst (λ (z : ℤ). KeepsExact a b s (drop 1 (Canon (value.Enums z items))) r3) (same_number w32 type range)
+    (subst (λ (l : List ℕ). KeepsExact a b s l r3) (after_code (value.Enums type items) 29 _ (row_form code.Enums (type, (tt, items)))) (typed_exact Canon (value_at levels) a b s r1 r2 r3 type n items bytes scalar count many k))
 
 -- a row with values inside, after its code, where what follows the code was read so
 pub inside_exact : {X : Type 0} (levels : ℕ) (c : Code) (s whole : List ℕ) → whole ≡ byte_of c ∷ s → (view : X → Value × List ℕ) (result : Result X ReadError) → ReaderAnswers view result (content_at (value_at levels) c s) → (a b : Bool)

@@ -2,8 +2,8 @@
 
 ghost use Rattle.std.specs.Prelude.{◌≡◌, ◌∷◌, ◌++◌, ◌+◌, ◌<◌, ◌^◌, [], ℕ, length, drop, IfOk};
 ghost use Rattle.std.specs.List.{flat_map};
-ghost use Rattle.ig_value.specs.declared.Code.TheVariants as code;
-ghost use Rattle.ig_value.specs.declared.Value.TheVariants.{Object as an_object};
+ghost use Rattle.ig_value.specs.declared.code.Code.TheVariants as code;
+ghost use Rattle.ig_value.specs.declared.value.Value.TheVariants.{Object as an_object};
 ghost use Rattle.ig_value.specs.Table.{byte_of};
 ghost use Rattle.ig_value.specs.Canon.{Canon};
 ghost use Rattle.ig_value.specs.Reading.{content_at, value_at, many_at, both_at, mapped_read, object_at};

@@ -10,6 +10,6 @@ each-preserved c =
     let less = c.take_one.ensures.more c.each-test.true in
     record {
       so_far = rw c.in_ok-push.ensures.items
-          (one_id c.each.ids.items entry c.each.left.items c.take_one.new.self.items c.each.entries.now c.take_id.result.1.now c.take_id.result.0 (footer_ids c.args.form c.args.footer.now) less c.take_id.ensures.id c.take_id.ensures.more c.each.invariant.so_far);
-      there = room_left entry c.each.left.items c.take_one.new.self.items c.each.entries.now c.take_id.result.1.now less c.take_id.ensures.more c.each.invariant.there;
+          (one_id c.each.ids.items entry c.each.left.items c.take_one.new.self.items c.each.entries.now c.take_id-id.result.1.now c.take_id-id.result.0 (footer_ids c.args.form c.args.footer.now) less c.take_id-id.ensures.id c.take_id-id.ensures.more c.each.invariant.so_far);
+      there = room_left entry c.each.left.items c.take_one.new.self.items c.each.entries.now c.take_id-id.result.1.now less c.take_id-id.ensures.more c.each.invariant.there;
     }

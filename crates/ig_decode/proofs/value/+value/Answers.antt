@@ -1,5 +1,5 @@
 -- Each row of the table, the loops, and objects.
-use Rattle.std.proofs.Common.{◌≡◌, ℕ, List, ◌∷◌, ◌++◌, ◌∙◌, ap, subst, Ok, refl, sym, arith}
+use Rattle.std.proofs.Common.{◌≡◌, ◌+◌, length, length-drop, ℕ, List, ◌∷◌, ◌++◌, ◌∙◌, ap, subst, Ok, refl, sym, arith}
 use Rattle.std.proofs.lemmas.Result.{err_from_is_err_and}
 use Rattle.ig_value.specs.declared.code.Code.{Code}
 use Rattle.ig_value.specs.declared.code.Code.TheVariants as code
@@ -12,6 +12,10 @@ use Rattle.ig_decode.proofs.ExactLemmas.{both_exact, next_exact}
 use Rattle.ig_decode.proofs.LoopLemmas.{one_read, one_failed, all_read}
 use Rattle.ig_decode.proofs.PairLemmas.{both_found, first_fails, second_fails}
 use Rattle.ig_decode.proofs.RowExactLemmas.{arm_exact, arm_inside, collection_exact, map_exact, objects_exact, enums_exact}
+use Rattle.ig_decode.specs.FooterForms.{offsets_type, key_bytes, entry_bytes, last_offset}
+use Rattle.ig_decode.proofs.FieldsLemmas.{field_fails, one_field, next_last}
+use Rattle.ig_decode.proofs.ObjectAtLemmas.{room_for_one, room_left}
+use Rattle.ig_decode.proofs.ReadLemmas.{field_left, may_follow}
 use Rattle.ig_decode.proofs.value.+value.Goals as goal
 
 -- ---- the loops
@@ -361,3 +365,36 @@ pub content_of-returns-in-Object-clause-reads : goal.content_of-returns-in-Objec
 content_of-returns-in-Object-clause-reads t c =
     rw c.in-Object.is
     (subst (λ (l : List ℕ). ReaderAnswers (λ x. (x.0, x.1.now)) c.object_of.result (mapped_read value.Object (object_at (value_at c.args.levels) l))) (c.requires ∙ ap (λ (k : Code). byte_of k ∷ c.args.bytes.now) c.in-Object.is) c.object_of.ensures.reads)
+
+-- ---- objects
+
+pub fields_of-followed_by-requires : goal.fields_of-followed_by-requires
+fields_of-followed_by-requires t c =
+    may_follow c.in-Err.error c.args.levels c.each.rest.now (length c.args.fields.now) (length c.args.footer.now + c.args.after) c.in-Err.ensures.reads
+    (field_left c.args.levels _ _ c.args.fields.now _ c.each.rest.now c.each.invariant.exact (λ i. omega (arith, c.type_inv.fields i))) (omega (arith, c.requires))
+
+pub fields_of-returns-in-Err-clause-reads : goal.fields_of-returns-in-Err-clause-reads
+fields_of-returns-in-Err-clause-reads t c =
+    let less = c.take_one.ensures.more c.each-test.true in
+    rw c.followed_by.ensures
+    (field_fails (value_at c.args.levels) (offsets_type c.args.form) (key_bytes c.args.form) c.args.fields.now c.args.footer.now c.in-Err.error c.each.values.items c.each.left.items c.take_one.new.self.items
+    c.each.entries.now c.take_offset-offset.result.1.now c.each.rest.now c.take_offset-offset.result.0 c.args.after _ less c.take_offset-offset.ensures.offset c.take_offset-offset.ensures.more
+    (omega (arith, c.if-offset-fields.false)) c.in-Err.ensures.reads
+    (field_left c.args.levels _ _ c.args.fields.now _ c.each.rest.now c.each.invariant.exact (λ i. omega (arith, c.type_inv.fields i))) c.each.invariant.reads)
+
+pub fields_of-each-preserved : goal.fields_of-each-preserved
+fields_of-each-preserved t c =
+    let less = c.take_one.ensures.more c.each-test.true in
+    let entry = entry_bytes c.args.form in
+    let room = room_for_one entry c.each.left.items c.take_one.new.self.items c.each.entries.now less c.each.invariant.there in
+    record {
+      reads = rw c.in_ok-push.ensures.items
+          (one_field (value_at c.args.levels) (offsets_type c.args.form) (key_bytes c.args.form) c.args.fields.now c.args.footer.now c.each.values.items c.each.left.items c.take_one.new.self.items
+          c.each.entries.now c.take_offset-offset.result.1.now c.each.rest.now c.take_offset-offset.result.0 c.in-Ok.read.0 c.in-Ok.read.1.now _ less c.take_offset-offset.ensures.offset c.take_offset-offset.ensures.more
+          room c.each.invariant.within (omega (arith, c.if-offset-fields.false)) c.in-Ok.ensures.reads c.each.invariant.reads);
+      last = next_last (offsets_type c.args.form) (key_bytes c.args.form) c.each.left.items c.take_one.new.self.items c.each.entries.now c.take_offset-offset.result.1.now c.each.last c.take_offset-offset.result.0 (last_offset c.args.form c.args.footer.now)
+          less c.take_offset-offset.ensures.offset c.take_offset-offset.ensures.more c.each.invariant.last;
+      exact = rw c.in_ok-push.ensures.items (next_exact Canon _ _ _ c.args.fields.now c.each.values.items c.each.rest.now c.in-Ok.read.0 c.in-Ok.read.1.now c.each.invariant.exact c.in-Ok.ensures.exact);
+      there = room_left entry c.each.left.items c.take_one.new.self.items c.each.entries.now c.take_offset-offset.result.1.now less c.take_offset-offset.ensures.more c.each.invariant.there;
+      within = omega (arith, ap length c.take_offset-offset.ensures.more, length-drop entry c.each.entries.now, c.each.invariant.within);
+    }
