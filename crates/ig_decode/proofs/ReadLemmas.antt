@@ -53,6 +53,9 @@ may_follow (error.Fault left c) levels rest bound more fails within small = omeg
 
 -- ---- objects
 
+pub same_record : (o : Record Value) (bits bits' : ℕ) (type type' : ℤ) (shape : Shape) (fields : List Value) → o ≡ record { bits = bits; type_id = type; shape = shape; fields = fields } → bits ≡ bits' → type ≡ type' → o ≡ record { bits = bits'; type_id = type'; shape = shape; fields = fields }
+same_record o bits bits' type type' shape fields is a b = is ∙ (λ i. record { bits = a i; type_id = b i; shape = shape; fields = fields })
+
 -- the bytes of an object, from its code on
 header_first : (s : List ℕ) (header : Header) → s ≡ 103 ∷ drop 1 s → header_bytes header ≡ take 23 (drop 1 s) → s ≡ (103 ∷ header_bytes header) ++ drop 24 s
 header_first s header starts spelled =

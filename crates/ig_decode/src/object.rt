@@ -1,6 +1,6 @@
 //! The header and the footer of a complex object.
 
-ghost use Rattle.std.specs.Prelude.{◌≡◌, ◌<◌, ◌≤◌, ◌↔◌, ◌-◌, ◌/◌, ◌%◌, ℕ, ℤ, pos, true, false, List, None, Some, length, take, drop, IsTrue, IsNone, IfSome, IfOk, IfErr};
+ghost use Rattle.std.specs.Prelude.{◌≡◌, ◌<◌, ◌≤◌, ◌↔◌, ◌-◌, ◌/◌, ◌%◌, ℕ, ℤ, pos, true, false, List, None, Some, length, take, drop, FitsSigned, IsTrue, IsNone, IfSome, IfOk, IfErr};
 ghost use Rattle.std.specs.Int.{w32, byte_len, cast_signed, from_le_bytes};
 ghost use Rattle.ig_base.specs.Headers.{header_bytes, header_of};
 ghost use Rattle.ig_value.specs.Objects.{kept_flags, checks, first_wrong, is_uneven, width_flag};
@@ -300,6 +300,7 @@ fn ids_in(alloc: Global, form: Footer, footer: &[u8]) -> Result<Items<i32>, Allo
 fn take_id(form: Footer, entries: &[u8]) -> (i32, &[u8])
     requires named { form.compact ≡ false }
     requires there { entry_bytes form ≤ length entries.now }
+    ensures range { FitsSigned w32 result.0 }
     ensures id { result.0 ≡ cast_signed w32 (from_le_bytes w32 (take 4 entries.now)) }
     ensures more { result.1.now ≡ drop (entry_bytes form) entries.now }
 {

@@ -1,5 +1,5 @@
 -- Each row of the table, the loops, and objects.
-use Rattle.std.proofs.Common.{◌≡◌, ◌+◌, length, length-drop, ℕ, List, ◌∷◌, ◌++◌, ◌∙◌, ap, subst, Ok, refl, sym, arith}
+use Rattle.std.proofs.Common.{◌≡◌, None, rules, ◌+◌, length, length-drop, ℕ, List, ◌∷◌, ◌++◌, ◌∙◌, ap, subst, Ok, refl, sym, arith}
 use Rattle.std.proofs.lemmas.Result.{err_from_is_err_and}
 use Rattle.ig_value.specs.declared.code.Code.{Code}
 use Rattle.ig_value.specs.declared.code.Code.TheVariants as code
@@ -15,7 +15,18 @@ use Rattle.ig_decode.proofs.RowExactLemmas.{arm_exact, arm_inside, collection_ex
 use Rattle.ig_decode.specs.FooterForms.{offsets_type, key_bytes, entry_bytes, last_offset}
 use Rattle.ig_decode.proofs.FieldsLemmas.{field_fails, one_field, next_last}
 use Rattle.ig_decode.proofs.ObjectAtLemmas.{room_for_one, room_left}
-use Rattle.ig_decode.proofs.ReadLemmas.{field_left, may_follow}
+use Rattle.ig_decode.proofs.ReadLemmas.{field_left, may_follow, same_record, alone_kept, object_kept}
+use Rattle.std.specs.Int.{w32}
+use Rattle.std.proofs.lemmas.Int.{to_z-of_z}
+use Rattle.ig_value.specs.declared.object.Record.{Record}
+use Rattle.ig_value.specs.declared.Value.{Value}
+use Rattle.ig_value.specs.Objects.{kept_flags}
+use Rattle.ig_value.specs.Reading.{alone}
+use Rattle.ig_value.proofs.HeaderLemmas.{header_there}
+use Rattle.ig_value.proofs.SpelledObjectLemmas.{header_fits}
+use Rattle.ig_decode.specs.Exactness.{KeepsExact}
+use Rattle.ig_decode.specs.ObjectAnswers.{IsLaidOut, IsShapeIn}
+use Rattle.ig_decode.proofs.PartsLemmas.{alone_read, shape_right, shape_wrong, object_read, object_fails}
 use Rattle.ig_decode.proofs.value.+value.Goals as goal
 
 -- ---- the loops
@@ -398,3 +409,61 @@ fields_of-each-preserved t c =
       there = room_left entry c.each.left.items c.take_one.new.self.items c.each.entries.now c.take_offset-offset.result.1.now less c.take_offset-offset.ensures.more c.each.invariant.there;
       within = omega (arith, ap length c.take_offset-offset.ensures.more, length-drop entry c.each.entries.now, c.each.invariant.within);
     }
+
+pub object_of-split_at-requires : goal.object_of-split_at-requires
+object_of-split_at-requires t c = header_there c.args.bytes.now c.in_ok-header.header c.in_ok-header.ensures.found
+
+pub object_of-returns-in_default-clause-reads : goal.object_of-returns-in_default-clause-reads
+object_of-returns-in_default-clause-reads t c =
+    let none : c.in_ok-layout.field-0 ≡ None = search rules in
+    let laid = subst (IsLaidOut c.in_ok-header.header (length c.args.bytes.now)) none c.in_ok-layout.ensures.found in
+    let o : c.in_ok-new.field-0 ≡ alone c.in_ok-header.header = c.in_ok-new.ensures ∙ c.alone_of.ensures in
+    ap (mapped_read value.Object) (alone_read c.args.bytes.now c.in_ok-header.header (value_at c.args.levels) c.in_ok-header.ensures.found laid.0 laid.1) ∙ (λ i. Ok (value.Object (sym o i), sym c.split_at.ensures.back i))
+
+pub object_of-returns-in_default-clause-exact : goal.object_of-returns-in_default-clause-exact
+object_of-returns-in_default-clause-exact t c =
+    let none : c.in_ok-layout.field-0 ≡ None = search rules in
+    let laid = subst (IsLaidOut c.in_ok-header.header (length c.args.bytes.now)) none c.in_ok-layout.ensures.found in
+    let o : c.in_ok-new.field-0 ≡ alone c.in_ok-header.header = c.in_ok-new.ensures ∙ c.alone_of.ensures in
+    subst (λ (x : Record Value). KeepsExact c.args.exact.now c.is_canonical_alone.result c.args.bytes.now (Canon (value.Object x)) c.split_at.result.1.now) (sym o)
+    (alone_kept c.args.bytes.now c.in_ok-header.header c.split_at.result.1.now c.in_ok-header.ensures.found (λ i. omega (arith, c.type_inv.bytes i)) c.requires c.in_ok-header.ensures.spelled c.split_at.ensures.back laid.0 laid.1
+    c.args.exact.now c.is_canonical_alone.result c.is_canonical_alone.ensures.0 c.is_canonical_alone.ensures.1)
+
+pub object_of-returns-in_default-2-clause-reads : goal.object_of-returns-in_default-2-clause-reads
+object_of-returns-in_default-2-clause-reads t c =
+    let lay = subst (IsLaidOut c.in_ok-header.header (length c.args.bytes.now)) c.in-Some.is c.in_ok-layout.ensures.found in
+    let none : c.in_ok-shape.field-0 ≡ None = search rules in
+    let told = subst (IsShapeIn c.in_ok-header.header c.in-Some.layout.form c.parts_of.result.1.now) none c.in_ok-shape.ensures in
+    ap (mapped_read value.Object) (shape_wrong c.args.bytes.now c.in_ok-header.header c.in-Some.layout c.in_ok-header.ensures.found lay c.parts_of.result.0.now c.parts_of.result.1.now c.parts_of.result.2.now c.parts_of.ensures.fields c.parts_of.ensures.footer c.parts_of.ensures.rest told.0 told.1 (value_at c.args.levels))
+
+pub object_of-returns-in_err-values-clause-reads : goal.object_of-returns-in_err-values-clause-reads
+object_of-returns-in_err-values-clause-reads t c =
+    let lay = subst (IsLaidOut c.in_ok-header.header (length c.args.bytes.now)) c.in-Some.is c.in_ok-layout.ensures.found in
+    let told = subst (IsShapeIn c.in_ok-header.header c.in-Some.layout.form c.parts_of.result.1.now) c.in-Some-2.is c.in_ok-shape.ensures in
+    let right = shape_right c.args.bytes.now c.in_ok-header.header c.in-Some.layout c.in_ok-header.ensures.found lay c.parts_of.result.0.now c.parts_of.result.1.now c.parts_of.result.2.now c.parts_of.ensures.fields c.parts_of.ensures.footer c.parts_of.ensures.rest told.1 in
+    let p = err_from_is_err_and c.from_residual-in_err-values.result c.from_residual-in_err-values.ensures.1 in
+    rw (p.1, p.2) (object_fails c.args.bytes.now c.in_ok-header.header c.in-Some.layout c.in_ok-header.ensures.found lay c.parts_of.result.0.now c.parts_of.result.1.now c.parts_of.result.2.now c.parts_of.ensures.fields c.parts_of.ensures.footer c.parts_of.ensures.rest right (value_at c.args.levels) c.in_err-values.field-0.0 c.in_err-values.ensures.reads)
+
+pub object_of-returns-clause-reads : goal.object_of-returns-clause-reads
+object_of-returns-clause-reads t c =
+    let lay = subst (IsLaidOut c.in_ok-header.header (length c.args.bytes.now)) c.in-Some.is c.in_ok-layout.ensures.found in
+    let told = subst (IsShapeIn c.in_ok-header.header c.in-Some.layout.form c.parts_of.result.1.now) c.in-Some-2.is c.in_ok-shape.ensures in
+    let right = shape_right c.args.bytes.now c.in_ok-header.header c.in-Some.layout c.in_ok-header.ensures.found lay c.parts_of.result.0.now c.parts_of.result.1.now c.parts_of.result.2.now c.parts_of.ensures.fields c.parts_of.ensures.footer c.parts_of.ensures.rest told.1 in
+    let fits = header_fits c.args.bytes.now c.in_ok-header.header (λ i. omega (arith, c.type_inv.bytes i)) c.in_ok-header.ensures.found in
+    let o : c.in_ok-new-2.field-0 ≡ record { bits = kept_flags c.in_ok-header.header.flags; type_id = c.in_ok-header.header.type_id; shape = c.in-Some-2.shape; fields = c.in_ok-values.values } =
+    same_record c.in_ok-new-2.field-0 _ _ _ _ c.in-Some-2.shape c.in_ok-values.values c.in_ok-new-2.ensures c.own_flags.ensures (to_z-of_z w32 c.in_ok-header.header.type_id fits.type) in
+    object_read c.args.bytes.now c.in_ok-header.header c.in-Some.layout c.in_ok-header.ensures.found lay c.parts_of.result.0.now c.parts_of.result.1.now c.parts_of.result.2.now c.parts_of.ensures.fields c.parts_of.ensures.footer c.parts_of.ensures.rest right (value_at c.args.levels) c.in_ok-values.values c.in_ok-values.ensures.reads c.in-Some-2.shape told.0
+    ∙ ap (λ (x : Record Value). Ok (value.Object x, c.parts_of.result.2.now)) (sym o)
+
+pub object_of-returns-clause-exact : goal.object_of-returns-clause-exact
+object_of-returns-clause-exact t c =
+    let lay = subst (IsLaidOut c.in_ok-header.header (length c.args.bytes.now)) c.in-Some.is c.in_ok-layout.ensures.found in
+    let told = subst (IsShapeIn c.in_ok-header.header c.in-Some.layout.form c.parts_of.result.1.now) c.in-Some-2.is c.in_ok-shape.ensures in
+    let right = shape_right c.args.bytes.now c.in_ok-header.header c.in-Some.layout c.in_ok-header.ensures.found lay c.parts_of.result.0.now c.parts_of.result.1.now c.parts_of.result.2.now c.parts_of.ensures.fields c.parts_of.ensures.footer c.parts_of.ensures.rest told.1 in
+    let fits = header_fits c.args.bytes.now c.in_ok-header.header (λ i. omega (arith, c.type_inv.bytes i)) c.in_ok-header.ensures.found in
+    let o : c.in_ok-new-2.field-0 ≡ record { bits = kept_flags c.in_ok-header.header.flags; type_id = c.in_ok-header.header.type_id; shape = c.in-Some-2.shape; fields = c.in_ok-values.values } =
+    same_record c.in_ok-new-2.field-0 _ _ _ _ c.in-Some-2.shape c.in_ok-values.values c.in_ok-new-2.ensures c.own_flags.ensures (to_z-of_z w32 c.in_ok-header.header.type_id fits.type) in
+    subst (λ (x : Record Value). KeepsExact c.args.exact.now c.is_canonical_head.result c.args.bytes.now (Canon (value.Object x)) c.parts_of.result.2.now) (sym o)
+    (object_kept c.args.levels c.args.bytes.now c.in_ok-header.header c.in-Some.layout c.in_ok-header.ensures.found lay c.parts_of.result.0.now c.parts_of.result.1.now c.parts_of.result.2.now c.parts_of.ensures.fields c.parts_of.ensures.footer c.parts_of.ensures.rest (λ i. omega (arith, c.type_inv.bytes i)) c.requires c.in_ok-header.ensures.spelled right
+    c.in-Some-2.shape told.0 told.1 c.in_ok-values.values c.in_ok-values.ensures.reads c.in_ok-values.last c.in_ok-values.ensures.last
+    c.args.exact.now c.fields_of.new.exact c.is_canonical_head.result c.in_ok-values.ensures.exact c.is_canonical_head.ensures.0 c.is_canonical_head.ensures.1)
