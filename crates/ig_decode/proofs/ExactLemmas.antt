@@ -21,7 +21,7 @@ both_exact a b c s f m g r p q = record {
   least = omega (arith, p.least, q.least, length-append f g, length-append p.prefix q.prefix);
   exact = (
     λ h. let y = q.exact.0 h in let x = p.exact.0 y.0 in (x.0, joined p.prefix q.prefix f g x.1 y.1),
-    λ h. let parts = same_parts p.prefix q.prefix f g p.least q.least h.1 in q.exact.1 (p.exact.1 (h.0, parts.0), parts.1)
+    λ h. let parts = same_parts p.prefix q.prefix f g p.least q.least h.1 in q.exact.1 (p.exact.1 (h.0, parts.0), parts.1),
   );
 }
 

@@ -195,11 +195,13 @@ module _ (levels : ℕ) (s : List ℕ) (header : Header) (fields footer rest : L
       sym (drop_at (103 ∷ header_bytes header) (fields ++ footer) 24 (ap suc (header_len header))) ∙ ap (drop 24) e ∙ drop_at (103 ∷ header_bytes canonical) (pieces ++ foot) 24 (ap suc (header_len canonical)) in
       let region : fields ≡ pieces = sym (take_at fields footer (length fields) refl) ∙ ap (take (length fields)) body ∙ take_at pieces foot (length fields) (sym len) in
       let canonical_fields : fields ≡ flat_map Canon xs = region ∙ flat in
-      let last_is : last ≡ last_of (places_from 24 (map Canon xs)) = is_last ∙ ap last_of (places canonical_fields) in
-      (canonical_fields, (
-        ap (λ (h : Header). h.flags) same ∙ (λ i. kept_flags header.flags + 2 + width_flag (sym last_is i) + r.compact i),
-        ap (λ (h : Header). h.hash) same ∙ ap (λ (l : List ℕ). cast_signed w32 (BytesHash l)) (sym region)
-      ))
+      let last_is : last ≡ last_of (places_from 24 (map Canon xs)) = is_last ∙ ap last_of (places canonical_fields) in (
+        canonical_fields,
+        (
+          ap (λ (h : Header). h.flags) same ∙ (λ i. kept_flags header.flags + 2 + width_flag (sym last_is i) + r.compact i),
+          ap (λ (h : Header). h.hash) same ∙ ap (λ (l : List ℕ). cast_signed w32 (BytesHash l)) (sym region),
+        ),
+      )
 
   nothing_after : (p : List ℕ) → fields ≡ p ++ [] → p ≡ fields
   nothing_after p e = sym (e ∙ append-nil p)
@@ -214,7 +216,7 @@ module _ (levels : ℕ) (s : List ℕ) (header : Header) (fields footer rest : L
         least = form_len;
         exact = (
           λ h. let a = there h in let b = k.exact.0 a.0 in (b.0, is_form last is_last (sym all ∙ b.1) a.1),
-          λ h. let a = form_is_right last is_last h.1 in back (k.exact.1 (h.0, all ∙ a.0), a.1)
+          λ h. let a = form_is_right last is_last h.1 in back (k.exact.1 (h.0, all ∙ a.0), a.1),
         );
       } in
       subst (λ (l : List ℕ). KeepsExact old new s l rest) (sym form_is) made
@@ -257,7 +259,7 @@ module _ (s : List ℕ) (header : Header) (rest : List ℕ) (begins : header_of 
         least = omega (arith, header_len header, header_len bare);
         exact = (
           λ h. let a = there h in (a.0, ap (λ (x : Header). 103 ∷ header_bytes x) (is_bare a.1)),
-          λ h. back (h.0, bare_is (same_bare h.1))
+          λ h. back (h.0, bare_is (same_bare h.1)),
         );
       } in
       subst (λ (l : List ℕ). KeepsExact old new s l rest) (sym bare_form) made

@@ -376,7 +376,10 @@ pub(crate) fn is_canonical_head(exact: bool, header: &Header, last: usize, field
 fn canonical_flags(flags: u16, last: usize) -> u16
     ensures { result ≡ full_flags flags last }
 {
-    own_flags(flags) + HAS_SCHEMA + flag_of_width(last) + flags / COMPACT_FOOTER % 2 * COMPACT_FOOTER
+    own_flags(flags)
+        + HAS_SCHEMA
+        + flag_of_width(last)
+        + flags / COMPACT_FOOTER % 2 * COMPACT_FOOTER
 }
 
 /// The flag of the narrowest offsets where this is the last.

@@ -112,15 +112,44 @@ fn refusals_name_the_offset(rt: HostRuntime) -> Result<(), Fail> {
 /// Objects, and whether they are canonical.
 static OBJECTS: [(&[u8], bool); 5] = [
     // Of the type 112, whose field 97 is the int 5.
-    (&[0x67, 1, 0x0B, 0, 0x70, 0, 0, 0, 0xFD, 0x64, 0xE1, 1, 0x22, 0, 0, 0, 0xE4, 0xD3, 0xE1, 0xF5, 0x1D, 0, 0, 0, 3, 5, 0, 0, 0, 0x61, 0, 0, 0, 0x18], true),
+    (
+        &[
+            0x67, 1, 0x0B, 0, 0x70, 0, 0, 0, 0xFD, 0x64, 0xE1, 1, 0x22, 0, 0, 0, 0xE4, 0xD3, 0xE1,
+            0xF5, 0x1D, 0, 0, 0, 3, 5, 0, 0, 0, 0x61, 0, 0, 0, 0x18,
+        ],
+        true,
+    ),
     // The same with an offset of two bytes, and without its hash.
-    (&[0x67, 1, 0x13, 0, 0x70, 0, 0, 0, 0, 0, 0, 0, 0x23, 0, 0, 0, 0xE4, 0xD3, 0xE1, 0xF5, 0x1D, 0, 0, 0, 3, 5, 0, 0, 0, 0x61, 0, 0, 0, 0x18, 0], false),
+    (
+        &[
+            0x67, 1, 0x13, 0, 0x70, 0, 0, 0, 0, 0, 0, 0, 0x23, 0, 0, 0, 0xE4, 0xD3, 0xE1, 0xF5,
+            0x1D, 0, 0, 0, 3, 5, 0, 0, 0, 0x61, 0, 0, 0, 0x18, 0,
+        ],
+        false,
+    ),
     // A header alone.
-    (&[0x67, 1, 1, 0, 0x70, 0, 0, 0, 1, 0, 0, 0, 0x18, 0, 0, 0, 0, 0, 0, 0, 0, 0, 0, 0], true),
+    (
+        &[
+            0x67, 1, 1, 0, 0x70, 0, 0, 0, 1, 0, 0, 0, 0x18, 0, 0, 0, 0, 0, 0, 0, 0, 0, 0, 0,
+        ],
+        true,
+    ),
     // The same with flags and an offset that it needn't have.
-    (&[0x67, 1, 3, 0, 0x70, 0, 0, 0, 0, 0, 0, 0, 0x18, 0, 0, 0, 0, 0, 0, 0, 0x18, 0, 0, 0], false),
+    (
+        &[
+            0x67, 1, 3, 0, 0x70, 0, 0, 0, 0, 0, 0, 0, 0x18, 0, 0, 0, 0, 0, 0, 0, 0x18, 0, 0, 0,
+        ],
+        false,
+    ),
     // A person, Ann and 30, with a compact footer.
-    (&[0x67, 1, 0x2B, 0, 0x55, 0x9B, 0xE3, 0xC4, 0xC9, 0xCC, 0x94, 0x32, 0x27, 0, 0, 0, 5, 0xA9, 0, 0x74, 0x25, 0, 0, 0, 9, 3, 0, 0, 0, 0x41, 0x6E, 0x6E, 3, 0x1E, 0, 0, 0, 0x18, 0x20], true),
+    (
+        &[
+            0x67, 1, 0x2B, 0, 0x55, 0x9B, 0xE3, 0xC4, 0xC9, 0xCC, 0x94, 0x32, 0x27, 0, 0, 0, 5,
+            0xA9, 0, 0x74, 0x25, 0, 0, 0, 9, 3, 0, 0, 0, 0x41, 0x6E, 0x6E, 3, 0x1E, 0, 0, 0, 0x18,
+            0x20,
+        ],
+        true,
+    ),
 ];
 
 /// A byte of the first object, what is put in its place, and the refusal of what comes out.

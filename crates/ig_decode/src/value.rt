@@ -16,8 +16,9 @@ use crate::count::{StatedCount, room_for};
 use crate::element::element_at;
 use crate::fault::ReadError;
 use crate::object::{
-    HEADER_LEN, SCHEMA_AT_PLACE, SCHEMA_PLACE, alone_of, entry_count, followed_by, header_at, is_canonical_alone,
-    is_canonical_head, key_len, layout_of, own_flags, parts_of, shape_of, take_offset,
+    HEADER_LEN, SCHEMA_AT_PLACE, SCHEMA_PLACE, alone_of, entry_count, followed_by, header_at,
+    is_canonical_alone, is_canonical_head, key_len, layout_of, own_flags, parts_of, shape_of,
+    take_offset,
 };
 use crate::parts::ReadContent;
 use crate::rows::{array_row, content_row, element_row, optionals_row};
@@ -321,7 +322,15 @@ fn object_of<'a>(
             cause: Cause::Footer,
         });
     };
-    let (values, last) = fields_of(alloc, levels, layout.form, fields, footer, rest.len(), exact)?;
+    let (values, last) = fields_of(
+        alloc,
+        levels,
+        layout.form,
+        fields,
+        footer,
+        rest.len(),
+        exact,
+    )?;
     *exact = is_canonical_head(*exact, &header, last, fields);
     let object = Record {
         bits: own_flags(header.flags),
