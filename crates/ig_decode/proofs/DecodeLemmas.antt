@@ -13,8 +13,9 @@ use Rattle.ig_value.specs.Limits.{Fits, Nodes}
 use Rattle.ig_value.specs.Reading.{Fault, value_at, reading}
 use Rattle.ig_value.proofs.AgreesLemmas.{Takes, Halts, AreBytes-drop, ok_is, err_is}
 use Rattle.ig_value.proofs.ValueLemmas.{value_agrees}
-use Rattle.ig_value.proofs.SpelledLemmas.{spelled_canonical, spelled_fits, spelled_nodes}
+use Rattle.ig_value.proofs.SpelledLemmas.{spelled_fits, spelled_nodes}
 use Rattle.ig_decode.specs.declared.answer.Decoded.{Decoded}
+use Rattle.ig_decode.specs.Exactness.{KeepsExact}
 use Rattle.ig_decode.specs.DecodeAnswers.{IsFound, IsRefused, IsCanonical}
 
 -- ---- a value was read
@@ -37,17 +38,21 @@ front_is bytes at v rest b e used is =
     let t = taken bytes at v rest b e in
     ap (take used) t.whole ∙ take_at t.prefix rest used (used_is bytes at v rest b e used is)
 
+pub spelled_at : (bytes : List ℕ) (at : ℕ) (v : Value) (rest : List ℕ) → AreBytes bytes → value_at 32 (drop at bytes) ≡ Ok (v, rest) → (used : ℕ) → used ≡ length bytes - at - length rest → SpellsTo 32 (take used (drop at bytes)) v
+spelled_at bytes at v rest b e used is = subst (λ (l : List ℕ). SpellsTo 32 l v) (sym (front_is bytes at v rest b e used is)) (taken bytes at v rest b e).right
+
 pub is_found : (bytes : List ℕ) (at : ℕ) (v : Value) (rest : List ℕ) → at ≤ length bytes → AreBytes bytes → value_at 32 (drop at bytes) ≡ Ok (v, rest) → (used : ℕ) → used ≡ length bytes - at - length rest →
-    IsFound bytes at (record { value = v; used = used; canonical = true })
+    (exact : Bool) → KeepsExact true exact (drop at bytes) (Canon v) rest → IsFound bytes at (record { value = v; used = used; canonical = exact })
 unfolding Spells Fits
-is_found bytes at v rest le b e used is =
-    let t = taken bytes at v rest b e in
-    let spelled : SpellsTo 32 (take used (drop at bytes)) v = subst (λ (l : List ℕ). SpellsTo 32 l v) (sym (front_is bytes at v rest b e used is)) t.right in
+is_found bytes at v rest le b e used is exact k =
+    let spelled = spelled_at bytes at v rest b e used is in
+    let front : take used (drop at bytes) ≡ k.prefix =
+    ap (take used) k.whole ∙ take_at k.prefix rest used (omega (arith, is, rest_within bytes at v rest b e, ap length k.whole, length-append k.prefix rest, length-drop at bytes)) in
     record {
       within = omega (arith, rest_within bytes at v rest b e);
       spelled = spelled;
       fits = spelled_fits 32 _ v spelled;
-      canonical = (λ h. spelled_canonical 32 _ v spelled, λ h. search rules);
+      canonical = (λ h. front ∙ (k.exact.0 h).1, λ h. k.exact.1 (search rules, sym front ∙ h));
     }
 
 pub byte_for_node : (bytes : List ℕ) (at : ℕ) (v : Value) (rest : List ℕ) → AreBytes bytes → value_at 32 (drop at bytes) ≡ Ok (v, rest) → Nodes v ≤ length bytes - at - length rest
@@ -55,20 +60,24 @@ byte_for_node bytes at v rest b e =
     let t = taken bytes at v rest b e in
     omega (arith, spelled_nodes 32 t.prefix v t.right, used_is bytes at v rest b e (length bytes - at - length rest) refl)
 
+pub rest_is : (bytes : List ℕ) (at : ℕ) (v : Value) (rest : List ℕ) → AreBytes bytes → value_at 32 (drop at bytes) ≡ Ok (v, rest) → (used : ℕ) → used ≡ length bytes - at - length rest → drop (at + used) bytes ≡ rest
+rest_is bytes at v rest b e used is =
+    let t = taken bytes at v rest b e in
+    sym (drop-drop used at bytes) ∙ ap (drop used) t.whole ∙ drop_at t.prefix rest used (used_is bytes at v rest b e used is)
+
 pub reads_ok : (bytes : List ℕ) (at : ℕ) (v : Value) (rest : List ℕ) → AreBytes bytes → value_at 32 (drop at bytes) ≡ Ok (v, rest) → (used : ℕ) → used ≡ length bytes - at - length rest → reading (drop at bytes) ≡ Ok (v, drop (at + used) bytes)
 unfolding reading
 reads_ok bytes at v rest b e used is =
-    let t = taken bytes at v rest b e in
-    let behind : drop (at + used) bytes ≡ rest = sym (drop-drop used at bytes) ∙ ap (drop used) t.whole ∙ drop_at t.prefix rest used (used_is bytes at v rest b e used is) in
-    rw behind e
+    let after = rest_is bytes at v rest b e used is in
+    rw after e
 
 pub one_found : (bytes : List ℕ) (at : ℕ) (v : Value) (rest : List ℕ) → AreBytes bytes → value_at 32 (drop at bytes) ≡ Ok (v, rest) → (s r : List ℕ) (w : Value) → drop at bytes ≡ s ++ r → Spells s w → (v ≡ w) × (length bytes - at - length rest ≡ length s)
 unfolding Spells
 one_found bytes at v rest b e s r w whole h =
     let again = (value_agrees 32).again s w r h in
     let same = ok_is (v, rest) (w, r) (sym e ∙ ap (value_at 32) whole ∙ again) in
-    let behind : rest ≡ r = ap (λ (z : Value × List ℕ). z.1) same in
-    (ap (λ (z : Value × List ℕ). z.0) same, omega (arith, ap length behind, ap length whole, length-append s r, length-drop at bytes))
+    let same_rest : rest ≡ r = ap (λ (z : Value × List ℕ). z.1) same in
+    (ap (λ (z : Value × List ℕ). z.0) same, omega (arith, ap length same_rest, ap length whole, length-append s r, length-drop at bytes))
 
 pub none_refused : (s : List ℕ) (v : Value) (rest : List ℕ) → value_at 32 s ≡ Ok (v, rest) → (p : ℕ) (c : Cause) → Stops s p c → ⊥
 unfolding Stops

@@ -2,3 +2,11 @@ pub mod LoopLemmas
 pub mod TextLemmas
 pub mod PairLemmas
 pub mod DecodeLemmas
+pub mod TextAtLemmas
+pub mod ExactLemmas
+pub mod RowExactLemmas
+pub mod ObjectAtLemmas
+pub mod FieldsLemmas
+pub mod PartsLemmas
+pub mod ObjectExactLemmas
+pub mod ReadLemmas

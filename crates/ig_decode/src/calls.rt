@@ -2,7 +2,9 @@
 
 ghost use Rattle.std.specs.Prelude.{◌≡◌, ◌↔◌, ◌≤◌, length, drop, IsTrue, IfOk};
 ghost use Rattle.ig_value.specs.Reading.{value_at};
+ghost use Rattle.ig_value.specs.Canon.{Canon};
 ghost use Rattle.ig_decode.specs.ReaderAnswers.{ReaderAnswers};
+ghost use Rattle.ig_decode.specs.Exactness.{KeepsExact};
 ghost use Rattle.ig_decode.specs.DecodeAnswers.{IsRight, FindsWhatIsSpelled, RefusesWhatStops, Reads, HasByteForEachNode, IsCanonical};
 
 use crate::answer::Decoded;
@@ -35,11 +37,12 @@ pub fn decode_at(alloc: Global, bytes: &[u8], at: usize) -> Result<Decoded, Deco
     ensures nodes { HasByteForEachNode result }
     ensures reads { Reads bytes.now at result }
 {
-    match read_from(alloc, bytes, at) {
+    let mut exact = true;
+    match read_from(alloc, bytes, at, &mut exact) {
         Ok((value, rest)) => Ok(Decoded {
             value,
             used: bytes.len() - at - rest.len(),
-            canonical: true,
+            canonical: exact,
         }),
         Err(ReadError::NoMemory) => Err(DecodeFault::NoMemory),
         Err(ReadError::Fault { left, cause }) => Err(DecodeFault::Refused(Refusal {
@@ -50,12 +53,20 @@ pub fn decode_at(alloc: Global, bytes: &[u8], at: usize) -> Result<Decoded, Deco
 }
 
 /// The value at an offset, and the bytes after it.
-fn read_from(alloc: Global, bytes: &[u8], at: usize) -> Result<(Value, &[u8]), ReadError>
+fn read_from<'a>(
+    alloc: Global,
+    bytes: &'a [u8],
+    at: usize,
+    exact: &mut bool,
+) -> Result<(Value, &'a [u8]), ReadError>
     requires { at ≤ length bytes.now }
-    ensures { ReaderAnswers (λ x. (x.0, x.1.now)) result (value_at 32 (drop at bytes.now)) }
+    ensures reads { ReaderAnswers (λ x. (x.0, x.1.now))
+        result (value_at 32 (drop at bytes.now)) }
+    ensures exact { IfOk result (λ x. KeepsExact
+        exact.old exact.new (drop at bytes.now) (Canon x.0) x.1.now) }
 {
     let (_, rest) = bytes.split_at(at);
-    value_of(alloc, DEEPEST, rest)
+    value_of(alloc, DEEPEST, rest, exact)
 }
 
 /// Whether the bytes, all of them, are the canonical form of a value.

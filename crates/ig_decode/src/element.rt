@@ -4,11 +4,11 @@ ghost use Rattle.std.specs.Prelude.{◌≡◌, ℕ, ◌/◌, ◌<◌, ◌≤◌,
 ghost use Rattle.ig_value.specs.declared.cause.Cause.{Cause};
 ghost use Rattle.ig_value.specs.Part as scalar;
 ghost use Rattle.ig_value.specs.Reading.{scalar_of, item_at, many_at};
-ghost use Rattle.ig_decode.specs.ReaderAnswers.{ReaderAnswers};
+ghost use Rattle.ig_decode.specs.ReaderAnswers.{ReaderAnswers, AnswersWithoutMemory};
 ghost use Rattle.std.proofs.Common.{lit<};
 
 use crate::count::{StatedCount, room_for};
-use crate::fault::ReadError;
+use crate::fault::{ReadError, Stop};
 use ig_base::Items;
 use ig_value::Cause;
 use std::alloc::Global;
@@ -151,12 +151,13 @@ impl ReadElement for bool {
 }
 
 /// The element that the bytes begin with, and the bytes after it.
-pub(crate) fn element_at<E: ReadElement>(bytes: &[u8]) -> Result<(E, &[u8]), ReadError>
-    ensures { ReaderAnswers (λ x. (x.0, x.1.now)) result (item_at E.WIDTH E.meaning bytes.now) }
+pub(crate) fn element_at<E: ReadElement>(bytes: &[u8]) -> Result<(E, &[u8]), Stop>
+    ensures { AnswersWithoutMemory (λ x. (x.0, x.1.now))
+        result (item_at E.WIDTH E.meaning bytes.now) }
 {
     let left = bytes.len();
     if left < E::WIDTH {
-        return Err(ReadError::Fault {
+        return Err(Stop {
             left,
             cause: Cause::Short,
         });
@@ -164,7 +165,7 @@ pub(crate) fn element_at<E: ReadElement>(bytes: &[u8]) -> Result<(E, &[u8]), Rea
     let (front, rest) = bytes.split_at(E::WIDTH);
     match E::of(front) {
         Ok(element) => Ok((element, rest)),
-        Err(cause) => Err(ReadError::Fault { left, cause }),
+        Err(cause) => Err(Stop { left, cause }),
     }
 }
 

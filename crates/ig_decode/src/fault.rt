@@ -1,7 +1,7 @@
 //! Why bytes could not be read.
 
 ghost use Rattle.std.specs.Prelude.{◌≡◌};
-ghost use Rattle.ig_decode.specs.declared.fault.ReadError.TheVariants.{NoMemory};
+ghost use Rattle.ig_decode.specs.declared.fault.ReadError.TheVariants.{NoMemory, Fault};
 
 use ig_value::Cause;
 use std::alloc::{AllocError, AllocFailed};
@@ -43,12 +43,30 @@ impl fmt::Display for DecodeFault {
 
 impl std::error::Error for DecodeFault {}
 
+/// The first wrong item, by the number of bytes that are left where it begins.
+#[derive(Clone, Copy, Debug)]
+pub(crate) struct Stop {
+    pub(crate) left: usize,
+    pub(crate) cause: Cause,
+}
+
 /// Why a part could not be read.
 #[derive(Clone, Copy, Debug)]
 pub(crate) enum ReadError {
     NoMemory,
-    /// The first wrong item, by the number of bytes that are left where it begins.
+    /// The first wrong item, as a [`Stop`] has it.
     Fault { left: usize, cause: Cause },
+}
+
+impl From<Stop> for ReadError {
+    ghost from_gives = { λ s e. e ≡ Fault s.left s.cause };
+
+    fn from(stop: Stop) -> ReadError {
+        ReadError::Fault {
+            left: stop.left,
+            cause: stop.cause,
+        }
+    }
 }
 
 impl From<ig_base::NoMemory> for ReadError {

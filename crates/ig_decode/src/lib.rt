@@ -17,14 +17,18 @@ mod calls;
 mod count;
 mod element;
 mod fault;
+mod layout;
+mod object;
 mod parts;
 mod rows;
+mod text;
 mod value;
 
 pub use answer::Decoded;
 pub use calls::{decode, decode_at, is_canonical};
 pub use fault::{DecodeFault, Refusal};
 pub use ig_value::Cause;
+pub use text::text_at;
 
 #[cfg(test)]
 mod tests;

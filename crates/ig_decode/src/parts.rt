@@ -10,6 +10,7 @@ ghost use Rattle.ig_decode.specs.ArrayAt.{array_at};
 use crate::count::{StatedCount, room_for};
 use crate::element::{ReadElement, element_at, elements_at};
 use crate::fault::ReadError;
+use crate::text::{count_of, counted_text};
 use ig_base::{Items, NodeId, Octets, Text};
 use ig_value::{Cause, Code, Dec, Stamp};
 use std::alloc::Global;
@@ -26,7 +27,7 @@ impl ReadContent for i64 {
     ghost reads = { scalar_at part.i64 };
 
     fn read(_alloc: Global, bytes: &[u8]) -> Result<(i64, &[u8]), ReadError> {
-        element_at(bytes)
+        Ok(element_at(bytes)?)
     }
 }
 
@@ -34,21 +35,8 @@ impl ReadContent for Text {
     ghost reads = { counted_at text_run_at };
 
     fn read(alloc: Global, bytes: &[u8]) -> Result<(Text, &[u8]), ReadError> {
-        let (count, rest) = count_of(bytes)?;
-        let left = rest.len();
-        let Some((counted, rest)) = count.run(rest) else {
-            return Err(ReadError::Fault {
-                left,
-                cause: Cause::Short,
-            });
-        };
-        match simdutf8::basic::from_utf8(counted) {
-            Ok(text) => Ok((Text::new(String::from_str(alloc, text)?), rest)),
-            Err(_) => Err(ReadError::Fault {
-                left,
-                cause: Cause::Utf8,
-            }),
-        }
+        let (text, rest) = counted_text(bytes)?;
+        Ok((Text::new(String::from_str(alloc, text)?), rest))
     }
 }
 
@@ -96,20 +84,6 @@ impl ReadContent for Dec {
         let (bytes, rest) = Octets::read(alloc, rest)?;
         Ok((Dec { scale, bytes }, rest))
     }
-}
-
-/// An Int32 count, which isn't negative.
-pub(crate) fn count_of(bytes: &[u8]) -> Result<(StatedCount, &[u8]), ReadError>
-    ensures { ReaderAnswers (λ x. (x.0.items, x.1.now)) result (count_at bytes.now) }
-{
-    let (count, rest) = element_at::<i32>(bytes)?;
-    if count < 0 {
-        return Err(ReadError::Fault {
-            left: bytes.len(),
-            cause: Cause::Count(count),
-        });
-    }
-    Ok((StatedCount::new(count as usize), rest))
 }
 
 /// An array of elements: their count, and the elements.
