@@ -1,2 +1,4 @@
 pub mod OutputLemmas
 pub mod CanonLemmas
+pub mod DigestLemmas
+pub mod SpanLemmas

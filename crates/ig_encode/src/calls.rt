@@ -3,8 +3,9 @@
 ghost use Rattle.std.specs.Prelude.{◌≡◌, ◌-◌, ◌+◌, ◌^◌, ◌≤◌, ◌++◌, min, length, take, drop, replicate, OnOk, OnErr};
 ghost use Rattle.ig_value.specs.Canon.{Canon, IsSendable};
 
-use crate::length::Length;
-use crate::walk::put_value;
+use crate::fill_walk::fill_value;
+use crate::measure::Measure;
+use crate::measure_walk::measure_value;
 use crate::window::Window;
 use ig_base::{NoMemory, Octets};
 use ig_value::Value;
@@ -18,10 +19,9 @@ use std::mem;
 pub fn canonical_len(value: &Value) -> u128
     ensures { result ≡ min (length (Canon value.now)) (2 ^ 128 - 1) }
 {
-    let mut count = Length::new();
-    let mut none = [0u8; 0];
-    put_value(value, &mut count, &mut none);
-    count.total()
+    let mut measure = Measure::counting();
+    measure_value(value, &mut measure);
+    measure.length.total()
 }
 
 /// Fills the slice with the bytes of the canonical form from an offset on. Answers how many bytes
@@ -30,12 +30,12 @@ pub fn encode_part(value: &Value, from: u64, into: &mut [u8]) -> usize
     ensures count { result ≡ min (length into.old) (length (Canon value.now) - from) }
     ensures bytes { into.new ≡ take result (drop from (Canon value.now)) ++ drop result into.old }
 {
-    let mut part = Window {
+    let mut window = Window {
         skip: from,
         filled: 0,
     };
-    put_value(value, &mut part, into);
-    part.filled
+    fill_value(value, &mut window, into);
+    window.filled
 }
 
 /// Appends the canonical form. It takes its memory first, so an error leaves the bytes as they

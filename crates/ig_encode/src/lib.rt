@@ -6,14 +6,20 @@
 #![tactic(auto)]
 
 mod calls;
+mod fill_walk;
+mod footer;
 mod heads;
+mod leaves;
 mod length;
-mod length_output;
+mod measure;
+mod measure_output;
+mod measure_walk;
+mod object;
 mod output;
+mod span;
 mod spell;
 mod spell_heads;
 mod splice;
-mod walk;
 mod window;
 mod window_output;
 

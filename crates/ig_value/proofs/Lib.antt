@@ -15,4 +15,3 @@ pub mod SpelledLemmas
 pub mod DepthLemmas
 pub mod LawLemmas
 pub mod LimitsLemmas
-pub mod BuildLemmas

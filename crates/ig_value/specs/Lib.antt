@@ -5,6 +5,5 @@ pub mod Spells
 pub mod Stops
 pub mod Canon
 pub mod Limits
-pub mod Build
 pub mod Reading
 pub mod Laws
