@@ -2,3 +2,4 @@ pub mod OutputLemmas
 pub mod CanonLemmas
 pub mod DigestLemmas
 pub mod SpanLemmas
+pub mod MeasureLemmas

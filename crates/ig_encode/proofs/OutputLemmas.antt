@@ -37,7 +37,7 @@ first_passed after longer h width wide s into xs back n t u le is a b =
     let all : flat_map h xs ≡ front ++ flat_map h back = ap (flat_map h) (sym (take-append-drop n xs)) ∙ flat_map-append h (take n xs) (drop n xs) ∙ ap (λ (l : List _). front ++ flat_map h l) (sym is) in
     two after longer s into front (flat_map h back) t u (a front bytes) b ∙ ap (after s into) (sym all)
 
-flat_map_more : {A : Type 0} (h : A → List ℕ) (xs : List A) (i : ℕ) (d : A) → i < length xs → flat_map h (take (i + 1) xs) ≡ flat_map h (take i xs) ++ h (get_or xs i d)
+pub flat_map_more : {A : Type 0} (h : A → List ℕ) (xs : List A) (i : ℕ) (d : A) → i < length xs → flat_map h (take (i + 1) xs) ≡ flat_map h (take i xs) ++ h (get_or xs i d)
 flat_map_more h xs i d lt =
     ap (flat_map h) (take_at_read xs i d lt).1 ∙ flat_map-append h (take i xs) (get_or xs i d ∷ []) ∙ ap (λ (l : List ℕ). flat_map h (take i xs) ++ l) (append-nil (h (get_or xs i d)))
 

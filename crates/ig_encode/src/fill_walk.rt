@@ -22,33 +22,38 @@ pub(crate) fn fill_value(value: &Value, out: &mut Window, into: &mut [u8])
 {
     match value {
         Value::Objects { type_id, items } => {
-            put_typed(Code::Objects, type_id, items.as_slice().len(), out, into);
-            fill_values(items.as_slice(), out, into);
+            let items = items.as_slice();
+            put_typed(Code::Objects, type_id, items.len(), out, into);
+            fill_values(items, out, into);
         }
         Value::Collection { kind, items } => {
-            put_kinded(Code::Collection, kind, items.as_slice().len(), out, into);
-            fill_values(items.as_slice(), out, into);
+            let items = items.as_slice();
+            put_kinded(Code::Collection, kind, items.len(), out, into);
+            fill_values(items, out, into);
         }
         Value::Map { kind, pairs } => {
-            put_kinded(Code::Map, kind, pairs.as_slice().len(), out, into);
-            fill_pairs(pairs.as_slice(), out, into);
+            let pairs = pairs.as_slice();
+            put_kinded(Code::Map, kind, pairs.len(), out, into);
+            fill_pairs(pairs, out, into);
         }
         Value::Enums { type_id, items } => {
-            put_typed(Code::Enums, type_id, items.as_slice().len(), out, into);
-            fill_values(items.as_slice(), out, into);
+            let items = items.as_slice();
+            put_typed(Code::Enums, type_id, items.len(), out, into);
+            fill_values(items, out, into);
         }
         Value::Object(object) => {
             let object = object.get();
+            let fields = object.fields.as_slice();
             let span = measure_span(
                 &object.shape,
-                object.fields.as_slice(),
+                fields,
                 &Measure::hashing(),
             );
             put_header(&header_of_span(object, &span), out, into);
-            fill_values(object.fields.as_slice(), out, into);
+            fill_values(fields, out, into);
             put_footer(
                 &object.shape,
-                object.fields.as_slice(),
+                fields,
                 span.last.width,
                 out,
                 into,

@@ -102,7 +102,7 @@ impl Output for Measure {
 
 /// Counts more bytes.
 #[inline(always)]
-fn count_more(length: &mut Length, more: usize)
+pub(crate) fn count_more(length: &mut Length, more: usize)
     ensures { length.new ≡ count_after length.old more }
 {
     match length.low.checked_add(more as u64) {

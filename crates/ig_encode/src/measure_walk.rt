@@ -21,24 +21,29 @@ pub(crate) fn measure_value(value: &Value, out: &mut Measure)
     let mut none = [0u8; 0];
     match value {
         Value::Objects { type_id, items } => {
-            put_typed(Code::Objects, type_id, items.as_slice().len(), out, &mut none);
-            measure_values(items.as_slice(), out);
+            let items = items.as_slice();
+            put_typed(Code::Objects, type_id, items.len(), out, &mut none);
+            measure_values(items, out);
         }
         Value::Collection { kind, items } => {
-            put_kinded(Code::Collection, kind, items.as_slice().len(), out, &mut none);
-            measure_values(items.as_slice(), out);
+            let items = items.as_slice();
+            put_kinded(Code::Collection, kind, items.len(), out, &mut none);
+            measure_values(items, out);
         }
         Value::Map { kind, pairs } => {
-            put_kinded(Code::Map, kind, pairs.as_slice().len(), out, &mut none);
-            measure_pairs(pairs.as_slice(), out);
+            let pairs = pairs.as_slice();
+            put_kinded(Code::Map, kind, pairs.len(), out, &mut none);
+            measure_pairs(pairs, out);
         }
         Value::Enums { type_id, items } => {
-            put_typed(Code::Enums, type_id, items.as_slice().len(), out, &mut none);
-            measure_values(items.as_slice(), out);
+            let items = items.as_slice();
+            put_typed(Code::Enums, type_id, items.len(), out, &mut none);
+            measure_values(items, out);
         }
         Value::Object(object) => {
             let object = object.get();
-            let span = measure_span(&object.shape, object.fields.as_slice(), out);
+            let fields = object.fields.as_slice();
+            let span = measure_span(&object.shape, fields, out);
             put_measured(object, &span, out);
         }
         _ => put_leaf(value, out, &mut none),

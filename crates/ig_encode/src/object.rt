@@ -12,6 +12,7 @@ ghost use Rattle.ig_encode.specs.Spans.{type_of, offset_of, key_bytes, entry_byt
 
 use crate::length::Length;
 use crate::measure::Measure;
+use crate::measure_output::count_more;
 use crate::output::Output;
 use crate::span::{Offset, OffsetWidth, Span};
 use ig_base::{
@@ -251,9 +252,11 @@ fn measure_header(object: &Object, span: &Span, out: &mut Measure)
     ensures { out.new ≡ measure_after out.old (103 ∷ header_bytes (canonical_header
         object.now.bits object.now.type_id object.now.shape (map Canon object.now.fields))) }
 {
-    if out.count(HEADER_LEN) {
-        return;
+    match out.digest {
+        None => count_more(&mut out.length, HEADER_LEN),
+        Some(_) => {
+            let mut none = [0u8; 0];
+            put_header(&header_of_span(object, span), out, &mut none);
+        }
     }
-    let mut none = [0u8; 0];
-    put_header(&header_of_span(object, span), out, &mut none);
 }

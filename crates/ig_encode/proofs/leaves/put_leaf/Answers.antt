@@ -160,4 +160,4 @@ pub returns-in-Enums : goal.returns-in-Enums
 returns-in-Enums g c = λ is. absurd (leaf_row c.args.value.now code.Enums (c.in-Enums.type_id, (tt, c.in-Enums.items)) c.in-Enums.is is)
 
 pub returns-in-Object : goal.returns-in-Object
-returns-in-Object g c = λ is. absurd (leaf_row c.args.value.now code.Object c.in-Object.0 c.in-Object.is is)
+returns-in-Object g c = λ is. absurd (leaf_row c.args.value.now code.Object c.in-Object.field-0 c.in-Object.is is)
