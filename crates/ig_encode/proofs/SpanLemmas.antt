@@ -1,10 +1,10 @@
 -- The parts of an object's canonical form.
-use Rattle.std.proofs.Common.{◌≡◌, ℕ, zero, suc, ◌+◌, ◌-◌, ◌*◌, ◌/◌, ◌%◌, ◌^◌, ◌<◌, ◌≤◌, ℤ, pos, Bool, true, false, cond, Some, List, [], ◌∷◌, ◌++◌, length, map, take, get_or, ltb, refl, sym, ap, ◌∙◌, arith, lit<, append_assoc, length-append, length-take-le, None, Option}
+use Rattle.std.proofs.Common.{◌≡◌, ℕ, zero, suc, ◌+◌, ◌-◌, ◌*◌, ◌/◌, ◌%◌, ◌^◌, ◌<◌, ◌≤◌, ℤ, pos, Bool, true, false, cond, Some, List, [], ◌∷◌, ◌++◌, length, map, take, drop, get_or, ltb, refl, sym, ap, ◌∙◌, arith, lit<, append_assoc, length-append, length-take-le, None, Option}
 use Rattle.std.specs.Int.{Width, w8, w16, w32, cast_signed, cast_unsigned}
 use Rattle.std.specs.List.{flat_map}
 use Rattle.std.proofs.lemmas.Bool.{cases_Bool}
 use Rattle.std.proofs.lemmas.Int.{of_z-to_z}
-use Rattle.std.proofs.lemmas.List.{append-nil}
+use Rattle.std.proofs.lemmas.List.{append-nil, take-append-drop}
 use Rattle.std.proofs.lemmas.Grind.{take_at_read, flat_map-append}
 use Rattle.ig_base.specs.Numbers.{LE}
 use Rattle.ig_base.specs.Hashes.{BytesHash, hash_after}
@@ -22,6 +22,7 @@ use Rattle.ig_encode.specs.declared.span.OffsetWidth.{OffsetWidth}
 use Rattle.ig_encode.specs.declared.span.OffsetWidth.TheVariants.{One, Two, Four}
 use Rattle.ig_encode.specs.declared.span.Offset.{Offset}
 use Rattle.ig_encode.specs.declared.span.Span.{Span}
+use Rattle.ig_encode.proofs.OutputLemmas.{Takes, TakesLonger, two}
 use Rattle.ig_encode.specs.MeasureOutput.{measure_after, measured_after, count_after, no_length, hashing_start, no_digest, digest_after, hashed_after, started, fresh_of, measured_empty, measured_longer}
 use Rattle.ig_encode.specs.Spans.{type_of, least_width, offset_of, key_bytes, entry_bytes, field_offsets, canonical_header, field_footer, span_of, footer_of, entry_noted, flag_of}
 
@@ -332,7 +333,7 @@ header_empty bits type shape (x ∷ xs) h none lt is = absurd (omega (arith, non
 measure_zero : (m : Measure) → m ≡ measure_after m []
 measure_zero m = sym (ap (λ (t : Measure × List ℕ). t.0) (measured_empty m []))
 
-no_footer : (w : Width) (shape : Shape) → field_footer w shape [] ≡ []
+pub no_footer : (w : Width) (shape : Shape) → field_footer w shape [] ≡ []
 no_footer w (Named ids) = refl
 no_footer w (Compact schema) = refl
 
@@ -342,3 +343,49 @@ span_none start shape f a b c p q r s =
     let none = measure_zero start in
     same_span f (measure_after start []) 0 0 a (measure_after start (field_footer w8 shape [])) b (measure_after start (field_footer w16 shape [])) c (measure_after start (field_footer w32 shape []))
     (p ∙ none) refl (q ∙ none ∙ ap (measure_after start) (sym (no_footer w8 shape))) (r ∙ none ∙ ap (measure_after start) (sym (no_footer w16 shape))) (s ∙ none ∙ ap (measure_after start) (sym (no_footer w32 shape)))
+
+-- ---- the footer that is put entry by entry
+
+-- the footer of some fields begins with that of the first of them
+footer_begins : (w : Width) (shape : Shape) (xs ys : List Value) → (rest : List ℕ) × (field_footer w shape (xs ++ ys) ≡ field_footer w shape xs ++ rest)
+footer_begins w shape xs [] = ([], ap (field_footer w shape) (append-nil xs) ∙ sym (append-nil (field_footer w shape xs)))
+footer_begins w shape xs (y ∷ ys) =
+    let entry = entry_bytes w shape (length xs) (next_offset xs) in
+    let more = footer_begins w shape (xs ++ y ∷ []) ys in
+    (entry ++ more.0, ap (field_footer w shape) (sym (append_assoc xs (y ∷ []) ys)) ∙ more.1 ∙ ap (λ (l : List ℕ). l ++ more.0) (field_footer_more w shape xs y) ∙ append_assoc (field_footer w shape xs) entry more.0)
+
+-- an output that is full before the last entry
+pub footer_full : {S : Type 0} (after : Takes S) → TakesLonger after → (w : Width) (shape : Shape) (s : S) (into : List ℕ) (fields : List Value) (i : ℕ) (t : S × List ℕ) →
+    t ≡ after s into (field_footer w shape (take i fields)) → ((bytes : List ℕ) → after t.0 t.1 bytes ≡ t) → t ≡ after s into (field_footer w shape fields)
+footer_full after longer w shape s into fields i t put full =
+    let begins = footer_begins w shape (take i fields) (drop i fields) in
+    two after longer s into (field_footer w shape (take i fields)) begins.0 t t put (sym (full begins.0)) ∙ ap (after s into) (sym begins.1 ∙ ap (field_footer w shape) (take-append-drop i fields))
+
+-- one more entry
+pub footer_next : {S : Type 0} (after : Takes S) → TakesLonger after → (w : OffsetWidth) (shape : Shape) (s : S) (into : List ℕ) (fields : List Value) (i : ℕ) (x : Value) (o : Offset) (t u : S × List ℕ) → i < length fields → x ≡ get_or fields i x →
+    t ≡ after s into (field_footer (type_of w) shape (take i fields)) → o ≡ offset_of (next_offset (take i fields)) → u ≡ after t.0 t.1 (entry_bytes (type_of w) shape i o.low) → u ≡ after s into (field_footer (type_of w) shape (take (i + 1) fields))
+footer_next after longer w shape s into fields i x o t u lt item put is entry =
+    let xs = take i fields in
+    let len : length xs ≡ i = length-take-le i fields (omega (arith, lt)) in
+    let low : o.low ≡ next_offset xs % 2 ^ 32 = ap (λ (p : Offset). p.low) is in
+    let bytes : entry_bytes (type_of w) shape i o.low ≡ entry_bytes (type_of w) shape (length xs) (next_offset xs) =
+    ap (entry_bytes (type_of w) shape i) low ∙ low_entry w shape i (next_offset xs) ∙ ap (λ k. entry_bytes (type_of w) shape k (next_offset xs)) (sym len) in
+    let more : take (i + 1) fields ≡ xs ++ x ∷ [] = (take_at_read fields i x lt).1 ∙ ap (λ (y : Value). xs ++ y ∷ []) (sym item) in
+    two after longer s into (field_footer (type_of w) shape xs) (entry_bytes (type_of w) shape (length xs) (next_offset xs)) t u put (entry ∙ ap (after t.0 t.1) bytes)
+    ∙ ap (after s into) (sym (field_footer_more (type_of w) shape xs x) ∙ ap (field_footer (type_of w) shape) (sym more))
+
+-- the header, the fields and the footer, put one after another
+pub object_put : {S : Type 0} (after : Takes S) → TakesLonger after → (bits : ℕ) (type : ℤ) (shape : Shape) (fields : List Value) (span : Span) (h : Header) (s : S) (into : List ℕ) (t u v : S × List ℕ) →
+    span ≡ span_of hashing_start shape fields → header_bytes h ≡ header_bytes (canonical_header bits type shape (map Canon fields)) →
+    t ≡ after s into (103 ∷ header_bytes h) → u ≡ after t.0 t.1 (flat_map Canon fields) → v ≡ after u.0 u.1 (field_footer (type_of span.last.width) shape fields) → v ≡ after s into (103 ∷ object_bytes bits type shape (map Canon fields))
+object_put after longer bits type shape fields span h s into t u v is head first second third =
+    let H = header_bytes (canonical_header bits type shape (map Canon fields)) in
+    let C : List ℕ = 103 ∷ H in
+    let F = flat_map Canon fields in
+    let w = least_width (last_of (field_offsets fields)) in
+    let T = field_footer (type_of w) shape fields in
+    let width : span.last.width ≡ w = ap (λ (z : Span). z.last.width) is in
+    let a : t ≡ after s into C = first ∙ ap (λ (l : List ℕ). after s into (103 ∷ l)) head in
+    let b : u ≡ after s into (C ++ F) = two after longer s into C F t u a second in
+    let c : v ≡ after s into ((C ++ F) ++ T) = two after longer s into (C ++ F) T u v b (third ∙ ap (λ (k : OffsetWidth). after u.0 u.1 (field_footer (type_of k) shape fields)) width) in
+    c ∙ ap (after s into) (append_assoc C F T ∙ ap (λ (l : List ℕ). 103 ∷ l) (sym (object_split bits type shape fields)))

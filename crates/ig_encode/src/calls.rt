@@ -1,14 +1,18 @@
 //! The calls that encode.
 
 ghost use Rattle.std.specs.Prelude.{◌≡◌, ◌-◌, ◌+◌, ◌^◌, ◌≤◌, ◌++◌, min, length, take, drop, replicate, OnOk, OnErr};
+ghost use Rattle.std.specs.Int.{w32, cast_signed};
+ghost use Rattle.std.specs.List.{flat_map};
+ghost use Rattle.ig_base.specs.Hashes.{BytesHash};
 ghost use Rattle.ig_value.specs.Canon.{Canon, IsSendable};
 
 use crate::fill_walk::fill_value;
 use crate::measure::Measure;
-use crate::measure_walk::measure_value;
+use crate::measure_walk::{measure_value, measure_values};
+use crate::object::hash_of;
 use crate::window::Window;
 use ig_base::{NoMemory, Octets};
-use ig_value::Value;
+use ig_value::{Object, Value};
 use std::alloc::Global;
 use std::mem;
 
@@ -30,10 +34,7 @@ pub fn encode_part(value: &Value, from: u64, into: &mut [u8]) -> usize
     ensures count { result ≡ min (length into.old) (length (Canon value.now) - from) }
     ensures bytes { into.new ≡ take result (drop from (Canon value.now)) ++ drop result into.old }
 {
-    let mut window = Window {
-        skip: from,
-        filled: 0,
-    };
+    let mut window = Window::from(from);
     fill_value(value, &mut window, into);
     window.filled
 }
@@ -70,6 +71,16 @@ pub fn encode_known(
     }
     *out = Octets::new(bytes);
     grown
+}
+
+/// The hash of an object, as the header of its canonical form has it: over the canonical forms of
+/// its fields. Takes no memory, so it never refuses.
+pub fn object_hash(object: &Object) -> Result<i32, NoMemory>
+    ensures { result ≡ Ok (cast_signed w32 (BytesHash (flat_map Canon object.now.fields))) }
+{
+    let mut measure = Measure::hashing();
+    measure_values(object.fields.as_slice(), &mut measure);
+    Ok(hash_of(&measure))
 }
 
 /// Appends this many bytes, which are 0.

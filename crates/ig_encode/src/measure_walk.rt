@@ -52,7 +52,7 @@ pub(crate) fn measure_value(value: &Value, out: &mut Measure)
 
 /// Measures values, in order.
 #[cycle(measure)]
-fn measure_values(values: &[Value], out: &mut Measure)
+pub(crate) fn measure_values(values: &[Value], out: &mut Measure)
     ensures { out.new ≡ measure_after out.old (flat_map Canon values.now) }
 {
     for value in values {

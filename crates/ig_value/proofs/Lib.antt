@@ -15,3 +15,4 @@ pub mod SpelledLemmas
 pub mod DepthLemmas
 pub mod LawLemmas
 pub mod LimitsLemmas
+pub mod BuildLemmas

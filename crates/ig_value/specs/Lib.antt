@@ -5,5 +5,6 @@ pub mod Spells
 pub mod Stops
 pub mod Canon
 pub mod Limits
+pub mod Build
 pub mod Reading
 pub mod Laws

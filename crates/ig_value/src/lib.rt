@@ -7,7 +7,7 @@
 //! grammar are contracts of the functions in `laws.rt`.
 #![tactic(auto)]
 
-// mod build;
+mod build;
 mod cause;
 mod code;
 mod copy;
@@ -20,7 +20,7 @@ mod object;
 mod same;
 mod value;
 
-// pub use build::BuildFault;
+pub use build::BuildFault;
 pub use cause::Cause;
 pub use code::Code;
 pub use laws::{bounded_trees, one_form, one_reader, one_reading};
