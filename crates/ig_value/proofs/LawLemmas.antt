@@ -1,7 +1,8 @@
 -- The laws as they are stated for callers, at the 32 levels that a value may have.
-use Rattle.std.proofs.Common.{◌≡◌, ℕ, zero, suc, ◌≤◌, List, [], ◌∷◌, ◌++◌, length, map, Ok, Err, refl, sym, ap, subst, ◌∙◌, ◌<◌, ◌^◌, arith, inl, inr, ◌⊎◌}
-use Rattle.std.specs.List.{flat_map, AllByRecursion}
+use Rattle.std.proofs.Common.{◌≡◌, ℕ, zero, suc, ◌+◌, ◌≤◌, List, [], ◌∷◌, ◌++◌, length, map, Ok, Err, refl, sym, ap, subst, ◌∙◌, ◌<◌, ◌^◌, arith, inl, inr, ◌⊎◌}
+use Rattle.std.specs.List.{flat_map, sum_by, AllByRecursion}
 use Rattle.std.proofs.lemmas.List.{append_cancel_right}
+use Rattle.std.proofs.lemmas.List.Sums.{sum_by-cons}
 use Rattle.ig_base.specs.Numbers.{AreBytes}
 use Rattle.ig_value.specs.declared.value.Value.{Value, out-Value}
 use Rattle.ig_value.specs.declared.value.Value.TheOpen.{Value-F}
@@ -9,12 +10,12 @@ use Rattle.ig_value.specs.Table.{content, parts}
 use Rattle.ig_value.specs.Spells.{Spells}
 use Rattle.ig_value.specs.Stops.{Stops}
 use Rattle.ig_value.specs.Canon.{Canon, IsSendable}
-use Rattle.ig_value.specs.Limits.{Fits, FitsTo, FitsPart, Depth, children, greatest}
+use Rattle.ig_value.specs.Limits.{Fits, FitsTo, FitsPart, Depth, Nodes, part_nodes, shape_nodes, children, greatest}
 use Rattle.ig_value.specs.Reading.{Fault, Read, value_at, reading}
-use Rattle.ig_value.specs.Laws.{BeginsWithValue, HasStop, EveryInputIsDecided, OnePrefixSpells, OneStop, NoStopAfterValue, ReadIsSpelled, SpelledIsRead, ReadingStopsRightly, StopIsRead, SpelledFits, CanonSpells, CanonIsShortest, CanonTellsApart, ByteForEachNode, FitsIsShallow, FitsAtItsDepth}
+use Rattle.ig_value.specs.Laws.{BeginsWithValue, HasStop, EveryInputIsDecided, OnePrefixSpells, OneStop, NoStopAfterValue, ReadIsSpelled, SpelledIsRead, ReadingStopsRightly, StopIsRead, SpelledFits, CanonSpells, CanonIsShortest, CanonTellsApart, ByteForEachNode, NodesInsideCount, FitsIsShallow, FitsAtItsDepth}
 use Rattle.ig_value.proofs.AgreesLemmas.{ok_is, err_is}
 use Rattle.ig_value.proofs.ValueLemmas.{value_agrees}
-use Rattle.ig_value.proofs.FoldLemmas.{Depth_out}
+use Rattle.ig_value.proofs.FoldLemmas.{Depth_out, Nodes_out}
 use Rattle.ig_value.proofs.SpelledLemmas.{spelled_least, spelled_fits, fits_spelled, spelled_nodes, fits_depth}
 
 -- what reading gave
@@ -86,6 +87,25 @@ canon_tells_apart v w f g sendable e =
 pub byte_for_each_node : ByteForEachNode
 unfolding Spells
 byte_for_each_node s v h = spelled_nodes 32 s v h
+
+-- ---- the nodes of the values inside
+
+pairs_sum : {X : Type 0} (h : X → ℕ) (ps : List (X × X)) → sum_by h (flat_map (λ p. p.0 ∷ p.1 ∷ []) ps) ≡ sum_by (λ p. h p.0 + h p.1) ps
+pairs_sum h [] = refl
+pairs_sum h (p ∷ ps) =
+    let rest = flat_map (λ p. p.0 ∷ p.1 ∷ []) ps in
+    omega (arith, sum_by-cons h p.0 (p.1 ∷ rest), sum_by-cons h p.1 rest, sum_by-cons (λ p. h p.0 + h p.1) p ps, pairs_sum h ps)
+
+children_sum : {X : Type 0} (h : X → ℕ) (x : Value-F X) → sum_by h (children x) ≤ part_nodes h (content (parts x).0) (parts x).1
+children_sum h (Value-F.Objects type xs) = omega arith
+children_sum h (Value-F.Collection kind xs) = omega arith
+children_sum h (Value-F.Map kind ps) = omega (arith, pairs_sum h ps)
+children_sum h (Value-F.Enums type xs) = omega arith
+children_sum h (Value-F.Object o) = omega arith
+children_sum h _ = omega arith
+
+pub nodes_inside_count : NodesInsideCount
+nodes_inside_count v = omega (arith, Nodes_out v, children_sum Nodes (out-Value v))
 
 -- ---- limits at another depth
 

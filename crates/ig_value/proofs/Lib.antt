@@ -16,3 +16,4 @@ pub mod DepthLemmas
 pub mod LawLemmas
 pub mod LimitsLemmas
 pub mod BuildLemmas
+pub mod WorkedObjects

@@ -1,12 +1,12 @@
 -- Laws of the grammar, over lists and trees alone.
-use Rattle.std.specs.Prelude.{◌≡◌, ℕ, ◌+◌, ◌≤◌, ◌⊎◌, ◌++◌, List, length, Ok, Err}
+use Rattle.std.specs.Prelude.{◌≡◌, ℕ, suc, ◌+◌, ◌≤◌, ◌⊎◌, ◌++◌, List, length, sum_by, Ok, Err}
 use Rattle.ig_base.specs.Numbers.{AreBytes}
 use Rattle.ig_value.specs.declared.cause.Cause.{Cause}
-use Rattle.ig_value.specs.declared.value.Value.{Value}
+use Rattle.ig_value.specs.declared.value.Value.{Value, out-Value}
 use Rattle.ig_value.specs.Spells.{Spells}
 use Rattle.ig_value.specs.Stops.{Stops}
 use Rattle.ig_value.specs.Canon.{Canon, IsSendable}
-use Rattle.ig_value.specs.Limits.{Fits, FitsTo, Depth, Nodes}
+use Rattle.ig_value.specs.Limits.{Fits, FitsTo, Depth, Nodes, children}
 use Rattle.ig_value.specs.Reading.{reading}
 
 -- some prefix of the bytes encodes a value
@@ -79,6 +79,10 @@ CanonTellsApart = (v w : Value) → Fits v → Fits w → IsSendable v → Canon
 -- an encoding has at least a byte for each node of the value
 abbrev pub ByteForEachNode : Type 0
 ByteForEachNode = (s : List ℕ) (v : Value) → Spells s v → Nodes v ≤ length s
+
+-- a value is a node, and so is every node of a value inside it
+abbrev pub NodesInsideCount : Type 0
+NodesInsideCount = (v : Value) → suc (sum_by Nodes (children (out-Value v))) ≤ Nodes v
 
 -- a value within the limits at some depth is no deeper than that
 abbrev pub FitsIsShallow : Type 0

@@ -1,6 +1,6 @@
 //! Laws of the grammar. These functions do nothing; their contracts say what holds of every input.
 
-ghost use Rattle.ig_value.specs.Laws.{EveryInputIsDecided, OnePrefixSpells, OneStop, NoStopAfterValue, ReadIsSpelled, SpelledIsRead, ReadingStopsRightly, StopIsRead, SpelledFits, CanonSpells, CanonIsShortest, CanonTellsApart, ByteForEachNode, FitsIsShallow, FitsAtItsDepth};
+ghost use Rattle.ig_value.specs.Laws.{EveryInputIsDecided, OnePrefixSpells, OneStop, NoStopAfterValue, ReadIsSpelled, SpelledIsRead, ReadingStopsRightly, StopIsRead, SpelledFits, CanonSpells, CanonIsShortest, CanonTellsApart, ByteForEachNode, NodesInsideCount, FitsIsShallow, FitsAtItsDepth};
 
 /// Any byte string either has exactly one prefix that encodes a value, and exactly one value that
 /// it encodes, or stops being a value at exactly one offset, for exactly one cause.
@@ -29,10 +29,11 @@ pub fn one_form()
     ensures apart { CanonTellsApart }
 {}
 
-/// A value has no more nodes than an encoding of it has bytes, and a value within the limits is no
-/// deeper than they allow.
+/// A value has no more nodes than an encoding of it has bytes, and no fewer than the values inside
+/// it and one. A value within the limits is no deeper than they allow.
 pub fn bounded_trees()
     ensures nodes { ByteForEachNode }
+    ensures inside { NodesInsideCount }
     ensures shallow { FitsIsShallow }
     ensures own_depth { FitsAtItsDepth }
 {}

@@ -7,6 +7,7 @@ ghost use Rattle.ig_value.specs.Part as scalar;
 ghost use Rattle.ig_value.specs.Spells.{IsInRange};
 ghost use Rattle.ig_value.specs.Limits.{AreCountable, IfThere, IsLimitedShape, IsLimitedHead, IsLimitedText, IsLimitedUuid, IsLimitedStamp, IsLimitedDecimal};
 
+use crate::flags::kept_flags;
 use crate::object::{Record, Shape};
 use crate::value::{Dec, Stamp};
 use ig_base::{NodeId, Octets, Text};
@@ -161,7 +162,7 @@ pub(crate) fn is_limited_head<V>(object: &Record<V>) -> bool
 {
     let (bits, type_id) = (object.bits, object.type_id);
     let fields = object.fields.as_slice().len();
-    if bits / 64 * 64 + bits % 2 != bits {
+    if kept_flags(bits) != bits {
         return false;
     }
     if type_id == 0 {

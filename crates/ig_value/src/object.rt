@@ -11,11 +11,12 @@ pub enum Shape {
     Compact(i32),
 }
 
-/// An object whose fields hold a `V` each. A [`crate::Value`] holds objects whose fields hold values.
+/// An object whose fields hold a `V` each. A [`crate::Value`] holds objects whose fields hold
+/// values.
 #[derive(Debug, Drop)]
 pub struct Record<V> {
-    /// Flag 1, of a type that the user declared, and the flags from 64 up. Others say how the object
-    /// is encoded, and don't stand here.
+    /// Flag 1, of a user type, and the flags from 64 up. Others say how the object is encoded, and
+    /// don't stand here: [`crate::kept_flags`].
     pub bits: u16,
     /// The identifier of the type; never 0.
     pub type_id: i32,

@@ -26,8 +26,8 @@ pub const DEEPEST: u32 = 32;
 ///
 /// A value keeps to the limits where it is at most [`DEEPEST`] levels deep, each text and list in
 /// it has at most 2^31 - 1 bytes or items, and each object is as [`Record`] says: `Fits` in
-/// `specs/Limits.antt`. Whatever is decoded does. A tree that a caller builds may break them: [`Value::keeps_to_limits`] tells, and it is
-/// safe to call on any tree.
+/// `specs/Limits.antt`. Whatever is decoded does. A tree that a caller builds may break them:
+/// [`Value::keeps_to_limits`] tells, and it is safe to call on any tree.
 #[derive(Debug, Drop)]
 pub enum Value {
     /// Code 1.
