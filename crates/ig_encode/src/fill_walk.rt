@@ -44,20 +44,10 @@ pub(crate) fn fill_value(value: &Value, out: &mut Window, into: &mut [u8])
         Value::Object(object) => {
             let object = object.get();
             let fields = object.fields.as_slice();
-            let span = measure_span(
-                &object.shape,
-                fields,
-                &Measure::hashing(),
-            );
+            let span = measure_span(&object.shape, fields, &Measure::hashing());
             put_header(&header_of_span(object, &span), out, into);
             fill_values(fields, out, into);
-            put_footer(
-                &object.shape,
-                fields,
-                span.last.width,
-                out,
-                into,
-            );
+            put_footer(&object.shape, fields, span.last.width, out, into);
         }
         _ => put_leaf(value, out, into),
     }

@@ -119,9 +119,7 @@ fn carry(length: &mut Length, more: u128)
 {
     let sum = length.low as u128 + more;
     length.low = (sum % 18_446_744_073_709_551_616) as u64;
-    length.high = length
-        .high
-        .saturating_add(sum / 18_446_744_073_709_551_616);
+    length.high = length.high.saturating_add(sum / 18_446_744_073_709_551_616);
 }
 
 /// Counts as many bytes as another length.

@@ -15,9 +15,7 @@ use crate::measure::Measure;
 use crate::measure_output::count_more;
 use crate::output::Output;
 use crate::span::{Offset, OffsetWidth, Span};
-use ig_base::{
-    COMPACT_FOOTER, HAS_SCHEMA, Header, ONE_BYTE_OFFSETS, TWO_BYTE_OFFSETS, schema_id,
-};
+use ig_base::{COMPACT_FOOTER, HAS_SCHEMA, Header, ONE_BYTE_OFFSETS, TWO_BYTE_OFFSETS, schema_id};
 use ig_value::{Code, Object, Shape};
 
 /// The bytes of an object before its fields.
@@ -78,13 +76,7 @@ fn id_at(ids: &[i32], index: usize) -> i32
 
 /// Puts an identifier and an offset.
 #[tactic(auto, unfolding(ig_base::specs::Numbers::LE))]
-fn put_named<S: Output>(
-    id: i32,
-    width: OffsetWidth,
-    offset: u32,
-    out: &mut S,
-    into: &mut [u8],
-)
+fn put_named<S: Output>(id: i32, width: OffsetWidth, offset: u32, out: &mut S, into: &mut [u8])
     ensures { (out.new, into.new) ≡ S.after out.old into.old
         (LE w32 id ++ LE (type_of width) (pos offset)) }
 {
@@ -117,9 +109,30 @@ pub(crate) fn note_entry(shape: &Shape, index: usize, span: &mut Span)
 {
     let mut none = [0u8; 0];
     let offset = offset_after(&span.fields.length);
-    put_entry(shape, index, OffsetWidth::One, offset.low, &mut span.narrow, &mut none);
-    put_entry(shape, index, OffsetWidth::Two, offset.low, &mut span.middle, &mut none);
-    put_entry(shape, index, OffsetWidth::Four, offset.low, &mut span.wide, &mut none);
+    put_entry(
+        shape,
+        index,
+        OffsetWidth::One,
+        offset.low,
+        &mut span.narrow,
+        &mut none,
+    );
+    put_entry(
+        shape,
+        index,
+        OffsetWidth::Two,
+        offset.low,
+        &mut span.middle,
+        &mut none,
+    );
+    put_entry(
+        shape,
+        index,
+        OffsetWidth::Four,
+        offset.low,
+        &mut span.wide,
+        &mut none,
+    );
     span.last = offset;
 }
 
@@ -176,8 +189,15 @@ pub(crate) fn header_of_span(object: &Object, span: &Span) -> Header
 
 /// The header of an object without fields.
 fn header_alone(bits: u16, type_id: i32) -> Header
-    ensures { result ≡ record { version = 1; flags = bits; type_id = type_id; hash = pos 1;
-        length = pos 24; schema = pos 0; schema_at = pos 0 } }
+    ensures { result ≡ record {
+      version = 1;
+      flags = bits;
+      type_id = type_id;
+      hash = pos 1;
+      length = pos 24;
+      schema = pos 0;
+      schema_at = pos 0;
+    } }
 {
     Header {
         version: 1,
@@ -229,8 +249,30 @@ pub(crate) fn put_header<S: Output>(header: &Header, out: &mut S, into: &mut [u8
     let [a0, a1, a2, a3] = i32::to_le_bytes(header.schema_at);
     let code = Code::Object.byte();
     let bytes = [
-        code, header.version, f, g, t0, t1, t2, t3, h0, h1, h2, h3, l0, l1, l2, l3, s0, s1, s2, s3,
-        a0, a1, a2, a3,
+        code,
+        header.version,
+        f,
+        g,
+        t0,
+        t1,
+        t2,
+        t3,
+        h0,
+        h1,
+        h2,
+        h3,
+        l0,
+        l1,
+        l2,
+        l3,
+        s0,
+        s1,
+        s2,
+        s3,
+        a0,
+        a1,
+        a2,
+        a3,
     ];
     out.put(into, &bytes);
 }
