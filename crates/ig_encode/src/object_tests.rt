@@ -1,3 +1,5 @@
+ghost use Rattle.std.specs.Prelude.{◌<◌, length};
+
 use super::*;
 use ig_base::{Boxed, Items, Octets, Text};
 use ig_value::{Object, Record, Shape, Value};
