@@ -3,3 +3,4 @@ pub mod CanonLemmas
 pub mod DigestLemmas
 pub mod SpanLemmas
 pub mod MeasureLemmas
+pub mod MarkLemmas

@@ -6,3 +6,4 @@ pub mod ListBytes
 pub mod HeadBytes
 pub mod Leaves
 pub mod Spans
+pub mod Marks

@@ -102,3 +102,7 @@ abbrev pub flag_of : OffsetWidth → ℕ
 flag_of One = 8
 flag_of Two = 16
 flag_of Four = 0
+
+-- the footer with the least width
+abbrev pub least_footer : Shape → List Value → List ℕ
+least_footer shape fields = field_footer (type_of (least_width (last_of (field_offsets fields)))) shape fields

@@ -55,7 +55,7 @@ pub(crate) fn fill_value(value: &Value, out: &mut Window, into: &mut [u8])
 
 /// Puts values, in order.
 #[cycle(fill)]
-fn fill_values(values: &[Value], out: &mut Window, into: &mut [u8])
+pub(crate) fn fill_values(values: &[Value], out: &mut Window, into: &mut [u8])
     ensures { (out.new, into.new) ≡ window_after out.old into.old (flat_map Canon values.now) }
 {
     for value in values {
@@ -68,7 +68,7 @@ fn fill_values(values: &[Value], out: &mut Window, into: &mut [u8])
 
 /// Puts pairs of values, in order.
 #[cycle(fill)]
-fn fill_pairs(pairs: &[(Value, Value)], out: &mut Window, into: &mut [u8])
+pub(crate) fn fill_pairs(pairs: &[(Value, Value)], out: &mut Window, into: &mut [u8])
     ensures { (out.new, into.new) ≡ window_after out.old into.old (flat_map pair_bytes pairs.now) }
 {
     for (key, value) in pairs {

@@ -1,10 +1,10 @@
 //! The footer of an object that is put piece by piece.
 
 ghost use Rattle.std.specs.Prelude.{◌≡◌};
-ghost use Rattle.ig_encode.specs.Spans.{type_of, field_footer};
+ghost use Rattle.ig_encode.specs.Spans.{type_of, field_footer, least_footer};
 
 use crate::measure::Measure;
-use crate::measure_walk::measure_value;
+use crate::measure_walk::{measure_span, measure_value};
 use crate::object::{offset_after, put_entry};
 use crate::output::Output;
 use crate::span::OffsetWidth;
@@ -30,4 +30,17 @@ pub(crate) fn put_footer<S: Output>(
         put_entry(shape, index, width, offset.low, out, into);
         measure_value(field, &mut before);
     }
+}
+
+/// Puts the footer of these fields with the least width, which their last offset tells.
+pub(crate) fn put_least_footer<S: Output>(
+    shape: &Shape,
+    fields: &[Value],
+    out: &mut S,
+    into: &mut [u8],
+)
+    ensures { (out.new, into.new) ≡ S.after out.old into.old (least_footer shape.now fields.now) }
+{
+    let span = measure_span(shape, fields, &Measure::counting());
+    put_footer(shape, fields, span.last.width, out, into);
 }
