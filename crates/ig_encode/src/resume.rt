@@ -36,15 +36,11 @@ fn child_of_pairs(pairs: &[(Value, Value)], index: usize) -> Option<&Value>
         (λ child. slice_get (paired_values pairs.now) index ≡ Some child.now) }
     ensures small { IfSome result (λ child. index + 1 < 2 ^ 64) }
 {
-    if index / 2 >= pairs.len() {
-        return None;
-    }
-    let pair = &pairs[index / 2];
+    let pair = pairs.get(index / 2)?;
     if index % 2 == 0 {
-        Some(&pair.0)
-    } else {
-        Some(&pair.1)
+        return Some(&pair.0);
     }
+    Some(&pair.1)
 }
 
 /// How many bytes stand before the first value inside.
@@ -103,17 +99,22 @@ fn fill_after(value: &Value, index: usize, out: &mut Window, into: &mut [u8])
 
 /// Puts the keys and values of a map, by turns, from this index on.
 fn fill_from_pair(pairs: &[(Value, Value)], index: usize, out: &mut Window, into: &mut [u8])
-    requires { index ≤ length (paired_values pairs.now) }
     ensures { (out.new, into.new) ≡ window_after out.old into.old
         (flat_map Canon (drop index (paired_values pairs.now))) }
 {
     let at = index / 2;
-    if index % 2 == 0 {
-        fill_pairs(&pairs[at..], out, into);
+    if at >= pairs.len() {
         return;
     }
-    fill_value(&pairs[at].1, out, into);
-    fill_pairs(&pairs[at + 1..], out, into);
+    let (_, pairs) = pairs.split_at(at);
+    if index % 2 == 0 {
+        fill_pairs(pairs, out, into);
+        return;
+    }
+    if let [pair, rest @ ..] = pairs {
+        fill_value(&pair.1, out, into);
+        fill_pairs(rest, out, into);
+    }
 }
 
 /// The offset after a value that begins at this one, if it isn't past the bound.
