@@ -52,9 +52,15 @@ built_fits bits type fields bits_fit type_fits few fit right ids = record {
   fields = fields_fit 31 fields fit right.shallow;
 }
 
+-- the same of a type and fields that are equal to these
+buildable_again : (bits : ℕ) (type seen : ℤ) (fields lent : List (ℤ × Value)) → seen ≡ type → lent ≡ fields → IsBuildable bits seen lent → IsBuildable bits type fields
+buildable_again bits type seen fields lent same_type same_fields can =
+    subst (λ (t : ℤ). IsBuildable bits t fields) same_type (subst (IsBuildable bits seen) same_fields can)
+
 pub built_or_refused : (bits : ℕ) (type seen : ℤ) (fields lent : List (ℤ × Value)) → seen ≡ type → lent ≡ fields → IsInRange u16 bits → IsInRange i32 type → length fields < 2 ^ 31 → AllByRecursion (λ f. Fits f.1) fields → IsBuildable bits seen lent → (r : Result (Record Value) BuildFault) → MatchResult r (λ o. o ≡ object_of bits seen fields) (λ why. why ≡ fault.NoMemory) → IfOk r (λ o. AllByRecursion (IsInRange i32) (map (λ f. f.0) fields)) → MatchResult r (IsBuilt bits type fields) (IsRefused bits type fields)
 built_or_refused bits type seen fields lent same_type same_fields bits_fit type_fits few fit can (Ok o) is ids =
-    let right : IsBuildable bits type fields = subst (λ (t : ℤ). IsBuildable bits t fields) same_type (subst (IsBuildable bits seen) same_fields can) in
+    let right = buildable_again bits type seen fields lent same_type same_fields can in
     let what : o ≡ object_of bits type fields = is ∙ ap (λ (t : ℤ). object_of bits t fields) same_type in
     record { right = right; is = what; fits = subst (IsLimitedObject (FitsTo 31)) (sym what) (built_fits bits type fields bits_fit type_fits few fit right ids) }
-built_or_refused bits type seen fields lent same_type same_fields bits_fit type_fits few fit can (Err why) is ids = subst (IsRefused bits type fields) (sym is) tt
+built_or_refused bits type seen fields lent same_type same_fields bits_fit type_fits few fit can (Err why) is ids =
+    subst (IsRefused bits type fields) (sym is) (buildable_again bits type seen fields lent same_type same_fields can)

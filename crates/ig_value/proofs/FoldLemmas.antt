@@ -13,7 +13,7 @@ use Rattle.ig_value.specs.Objects.{object_bytes}
 use Rattle.ig_value.specs.Canon.{layer_bytes, Canon}
 use Rattle.ig_value.specs.Limits.{greatest, children, Depth, part_nodes, shape_nodes, Nodes}
 
-flat_map_mapped : {X : Type 0} (h : X → List ℕ) (xs : List X) → flat_map (λ b. b) (map h xs) ≡ flat_map h xs
+pub flat_map_mapped : {X : Type 0} (h : X → List ℕ) (xs : List X) → flat_map (λ b. b) (map h xs) ≡ flat_map h xs
 flat_map_mapped h [] = refl
 flat_map_mapped h (x ∷ xs) = ap (λ (l : List ℕ). h x ++ l) (flat_map_mapped h xs)
 

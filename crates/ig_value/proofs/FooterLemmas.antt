@@ -12,7 +12,7 @@ use Rattle.ig_value.specs.declared.object.Shape.{Shape}
 use Rattle.ig_value.specs.declared.object.Shape.TheVariants.{Named, Compact}
 use Rattle.ig_value.specs.Objects.{offset_type, key_len, entry_len, schema_of, named_footer, footer_bytes, IsShape, offsets_of, ids_of}
 use Rattle.ig_value.proofs.AgreesLemmas.{AreBytes-take, AreBytes-drop}
-use Rattle.ig_value.proofs.ScalarLemmas.{IsNumber, IsWide, wide8, wide16, wide32, signed_number, signed_fits, unsigned_number}
+use Rattle.ig_value.proofs.ScalarLemmas.{IsWide, wide8, wide16, wide32, signed_number, signed_fits, unsigned_number}
 use Rattle.ig_value.proofs.CountLemmas.{LE-length}
 use Rattle.ig_value.proofs.LaidLemmas.{more_entries}
 

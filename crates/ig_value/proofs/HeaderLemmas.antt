@@ -3,15 +3,14 @@
 use Rattle.std.proofs.Common.{◌≡◌, ◌≢◌, ℕ, ◌+◌, ◌-◌, ◌%◌, ◌<◌, ◌≤◌, ℤ, pos, negsuc, Bool, true, false, cond, not, ◌&&◌, List, [], ◌∷◌, ◌++◌, length, take, drop, get_or, ltb, Option, Some, None, refl, sym, ap, ◌∙◌, arith, inl, inr, length-append, eq-eqb}
 use Rattle.std.specs.List.{AllByRecursion}
 use Rattle.std.specs.Ordering.{int_eq}
-use Rattle.std.proofs.lemmas.Bool.{cases_lt, cases_Bool, both_ways, not-false, ltb-true, ltb-false, eqb-true, lt-ltb, le-ltb, and_parts, and_from, and_left, and_right, and_cases, not_from_true}
+use Rattle.std.proofs.lemmas.Bool.{cases_lt, both_ways, not-false, ltb-true, ltb-false, eqb-true, lt-ltb, le-ltb, and_parts, and_from, and_left, and_right, not_from_true}
 use Rattle.std.proofs.lemmas.Bool.Decides.{Decides-int_eq}
 use Rattle.std.proofs.lemmas.List.{drop-append-le, take-append-le, get_or_append_left, length-drop}
-use Rattle.ig_base.specs.Headers.{has_flag, field_at, header_of}
+use Rattle.ig_base.specs.Headers.{has_flag, header_of}
 use Rattle.ig_base.specs.declared.header.Header.{Header}
 use Rattle.ig_value.specs.declared.cause.Cause.{Cause}
 use Rattle.ig_value.specs.Objects.{Check, first_wrong, checks, size_of, entry_len, schema_of, is_uneven}
 use Rattle.ig_value.specs.Reading.{Fault}
-use Rattle.ig_value.proofs.AgreesLemmas.{AreBytes-take}
 
 -- ---- checks
 
@@ -72,10 +71,10 @@ int_same x y e = (Decides-int_eq x y).0 e
 int_other : (x y : ℤ) → int_eq x y ≡ false → x ≢ y
 int_other x y e same = both_ways (int_eq x y) e ((Decides-int_eq x y).1 same)
 
-int_same_back : (x y : ℤ) → x ≡ y → int_eq x y ≡ true
+pub int_same_back : (x y : ℤ) → x ≡ y → int_eq x y ≡ true
 int_same_back x y same = (Decides-int_eq x y).1 same
 
-int_other_by : (x y : ℤ) (b : Bool) → int_eq x y ≡ b → x ≢ y → int_eq x y ≡ false
+pub int_other_by : (x y : ℤ) (b : Bool) → int_eq x y ≡ b → x ≢ y → int_eq x y ≡ false
 int_other_by x y true is other = absurd (other (int_same x y is))
 int_other_by x y false is other = is
 
@@ -125,16 +124,31 @@ even_passes header ids r =
 pub none_from : (header : Header) (n : ℕ) (ids : List ℤ) → IsRight header n ids → first_wrong (checks header n ids) ≡ None
 none_from header n ids r =
     let L = size_of header.length in
-    none_wrong (checks header n ids)
-    (not_from_true _ (eq-eqb header.version 1 r.version),
-    (r.no_raw_data,
-    (r.one_width,
-    (int_other_by header.type_id (pos 0) (int_eq header.type_id (pos 0)) refl r.registered,
-    (le-ltb L 24 r.long,
-    (le-ltb n L r.inside,
-    (if_full L _ (λ lt. not_from_true _ (r.full lt).has_schema),
-    (if_full L (is_uneven header) (λ lt. even_passes header ids (r.full lt)),
-    (if_full L _ (λ lt. schema_passes header ids (has_flag 32 header.flags) refl (r.full lt).schema), tt)))))))))
+    none_wrong (checks header n ids) (
+      not_from_true _ (eq-eqb header.version 1 r.version),
+      (
+        r.no_raw_data,
+        (
+          r.one_width,
+          (
+            int_other_by header.type_id (pos 0) (int_eq header.type_id (pos 0)) refl r.registered,
+            (
+              le-ltb L 24 r.long,
+              (
+                le-ltb n L r.inside,
+                (
+                  if_full L _ (λ lt. not_from_true _ (r.full lt).has_schema),
+                  (
+                    if_full L (is_uneven header) (λ lt. even_passes header ids (r.full lt)),
+                    (if_full L _ (λ lt. schema_passes header ids (has_flag 32 header.flags) refl (r.full lt).schema), tt),
+                  ),
+                ),
+              ),
+            ),
+          ),
+        ),
+      ),
+    )
 
 -- ---- the header of a longer list
 

@@ -10,7 +10,7 @@ use Rattle.ig_value.specs.Table.{content, parts}
 use Rattle.ig_value.specs.Spells.{Spells}
 use Rattle.ig_value.specs.Stops.{Stops}
 use Rattle.ig_value.specs.Canon.{Canon, IsSendable}
-use Rattle.ig_value.specs.Limits.{Fits, FitsTo, FitsPart, Depth, Nodes, part_nodes, shape_nodes, children, greatest}
+use Rattle.ig_value.specs.Limits.{Fits, FitsTo, FitsPart, Depth, Nodes, part_nodes, children, greatest}
 use Rattle.ig_value.specs.Reading.{Fault, Read, value_at, reading}
 use Rattle.ig_value.specs.Laws.{BeginsWithValue, HasStop, EveryInputIsDecided, OnePrefixSpells, OneStop, NoStopAfterValue, ReadIsSpelled, SpelledIsRead, ReadingStopsRightly, StopIsRead, SpelledFits, CanonSpells, CanonIsShortest, CanonTellsApart, ByteForEachNode, NodesInsideCount, FitsIsShallow, FitsAtItsDepth}
 use Rattle.ig_value.proofs.AgreesLemmas.{ok_is, err_is}

@@ -33,6 +33,7 @@ kind_before h = (λ a. let p = h.0 a in (p.0, (p.1, p.2)), λ p. h.1 (p.0, p.1.0
 
 pub object_before : {A Head : Type 0} {X : Type 0} (F : X → Type 0) (o : Record X) (fields : List X) → fields ≡ o.fields → (Head ↔ ((length o.fields < 2 ^ 31) × IsLimitedHead o)) → (A ↔ (Head × (length fields < 2 ^ 31) × AllByRecursion F fields)) →
     A ↔ IsLimitedObject F o
-object_before F o fields same head h =
-    (λ a. let p = h.0 a in record { head = (head.0 p.0).1; few = subst (λ l. length l < 2 ^ 31) same p.1; fields = subst (AllByRecursion F) same p.2 },
-    λ l. h.1 (head.1 (l.few, l.head), subst (λ l. length l < 2 ^ 31) (sym same) l.few, subst (AllByRecursion F) (sym same) l.fields))
+object_before F o fields same head h = (
+  λ a. let p = h.0 a in record { head = (head.0 p.0).1; few = subst (λ l. length l < 2 ^ 31) same p.1; fields = subst (AllByRecursion F) same p.2 },
+  λ l. h.1 (head.1 (l.few, l.head), subst (λ l. length l < 2 ^ 31) (sym same) l.few, subst (AllByRecursion F) (sym same) l.fields),
+)

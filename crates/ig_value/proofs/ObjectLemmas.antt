@@ -1,8 +1,8 @@
 -- Objects are read as they are spelled, where a field is, and stop where they stop.
 use Rattle.std.proofs.Common.{◌≡◌, ◌≢◌, ℕ, zero, suc, ◌+◌, ◌-◌, ◌*◌, ◌/◌, ◌%◌, ◌<◌, ◌≤◌, ℤ, pos, Bool, true, false, cond, List, [], ◌∷◌, ◌++◌, length, take, drop, Option, Some, None, Result, Ok, Err, ltb, refl, sym, ap, subst, ◌∙◌, append_assoc, arith, inl, inr, length-append}
-use Rattle.std.specs.Int.{Width, w8, w16, w32, byte_len}
-use Rattle.std.proofs.lemmas.Bool.{cases_lt, cases_Bool, lt-ltb, le-ltb, ltb-true, ltb-false}
-use Rattle.std.proofs.lemmas.List.{take_at, drop_at, take-append-drop, length-take, length-drop, length-take-le, nil_from_length, drop-drop, take-take, drop-take}
+use Rattle.std.specs.Int.{w8, w16, w32, byte_len}
+use Rattle.std.proofs.lemmas.Bool.{lt-ltb, le-ltb, ltb-true, ltb-false}
+use Rattle.std.proofs.lemmas.List.{take_at, drop_at, take-append-drop, length-take, length-drop, length-take-le, drop-drop, take-take, drop-take}
 use Rattle.std.proofs.lemmas.Nat.{div-add-mod', div-mul-add}
 use Rattle.std.proofs.Math.Nat.{mul-mod_left}
 use Rattle.ig_base.specs.Numbers.{AreBytes}
@@ -12,8 +12,8 @@ use Rattle.ig_value.specs.declared.cause.Cause.{Cause}
 use Rattle.ig_value.specs.declared.cause.Cause.TheVariants as cause
 use Rattle.ig_value.specs.declared.object.Record.{Record}
 use Rattle.ig_value.specs.declared.object.Shape.{Shape}
-use Rattle.ig_value.specs.declared.object.Shape.TheVariants.{Named, Compact}
-use Rattle.ig_value.specs.Objects.{kept_flags, offset_type, key_len, entry_len, schema_of, size_of, footer_bytes, IsHeaderOf, HasNoFields, HasFields, AreLaid, IsObject, IsShape, offsets_of, ids_of, fields_of, footer_of, entry_count, object_offsets, object_ids, object_shape, refusal, first_offset, StopsLaid, StopsFields, StopsHeaded}
+use Rattle.ig_value.specs.declared.object.Shape.TheVariants.{Named}
+use Rattle.ig_value.specs.Objects.{kept_flags, offset_type, key_len, entry_len, schema_of, size_of, footer_bytes, IsHeaderOf, HasNoFields, HasFields, AreLaid, IsObject, IsShape, offsets_of, ids_of, fields_of, footer_of, entry_count, object_offsets, object_ids, object_shape, refusal, first_offset, StopsLaid, StopsHeaded}
 use Rattle.ig_value.specs.Reading.{Fault, Read, ◌>>=◌, turned, laid_at, object_with, fields_at, alone, checked_at, headed_at, object_at}
 use Rattle.ig_value.proofs.AgreesLemmas.{Agrees, Takes, Halts, Halted, AreBytes-take, AreBytes-drop, bind_ok, bind_err, ok_is, err_is}
 use Rattle.ig_value.proofs.LaidLemmas.{turned_ok, turned_err, more_entries, laid_takes, laid_again, laid_halts, laid_halted}

@@ -1,6 +1,6 @@
 -- What follows of the spelling of an object: it keeps to the limits, it has a byte for each node, and
 -- its canonical form is no longer. And the canonical form of what keeps to the limits spells it.
-use Rattle.std.proofs.Common.{◌≡◌, ◌≢◌, ℕ, zero, suc, ◌+◌, ◌-◌, ◌*◌, ◌/◌, ◌%◌, ◌<◌, ◌≤◌, ◌^◌, ℤ, pos, Bool, true, false, cond, List, [], ◌∷◌, ◌++◌, length, map, take, drop, fold, Option, Some, None, ltb, eq-eqb, not, ◌&&◌, refl, sym, ap, subst, ◌∙◌, append_assoc, arith, inl, inr, length-append}
+use Rattle.std.proofs.Common.{◌≡◌, ◌≢◌, ℕ, zero, suc, ◌+◌, ◌*◌, ◌/◌, ◌%◌, ◌<◌, ◌≤◌, ◌^◌, ℤ, pos, Bool, true, false, cond, List, [], ◌∷◌, ◌++◌, length, map, take, drop, fold, Option, Some, ltb, eq-eqb, not, ◌&&◌, refl, sym, ap, subst, ◌∙◌, arith, inl, inr, length-append}
 use Rattle.std.specs.Prelude.{FitsSigned, slice_index}
 use Rattle.std.specs.Int.{Width, w8, w16, w32, byte_len, cast_signed, from_le_bytes}
 use Rattle.std.specs.List.{flat_map, sum_by, AllByRecursion}
@@ -19,16 +19,16 @@ use Rattle.ig_base.specs.declared.header.Header.{Header}
 use Rattle.ig_value.specs.declared.object.Record.{Record}
 use Rattle.ig_value.specs.declared.object.Shape.{Shape}
 use Rattle.ig_value.specs.declared.object.Shape.TheVariants.{Named, Compact}
-use Rattle.ig_value.specs.Objects.{kept_flags, schema_of, offset_type, size_of, named_footer, footer_bytes, HasNoFields, HasFields, AreLaid, IsObject, IsShape, places_from, last_of, narrowest, width_flag, compact_flag, canonical_schema, object_bytes}
+use Rattle.ig_value.specs.Objects.{kept_flags, schema_of, offset_type, footer_bytes, HasFields, AreLaid, IsObject, IsShape, places_from, last_of, narrowest, width_flag, compact_flag, canonical_schema, object_bytes}
 use Rattle.ig_value.specs.Limits.{IsLimitedShape, IsLimitedHead, IsLimitedObject, shape_nodes}
 use Rattle.ig_value.proofs.AgreesLemmas.{AreBytes-take, AreBytes-drop}
-use Rattle.ig_value.proofs.ScalarLemmas.{IsWide, wide8, wide16, wide32, signed_number, unsigned_number, signed_fits}
+use Rattle.ig_value.proofs.ScalarLemmas.{IsWide, wide16, wide32, signed_number, unsigned_number, signed_fits}
 use Rattle.ig_value.proofs.FooterLemmas.{wide_by, bits_by, named_len, bare_len}
 use Rattle.ig_value.proofs.HeaderLemmas.{header_there, header_prefix}
 
 -- ---- lengths
 
-header_len : (h : Header) → length (header_bytes h) ≡ 23
+pub header_len : (h : Header) → length (header_bytes h) ≡ 23
 unfolding header_bytes LE
 header_len h = refl
 
@@ -98,7 +98,7 @@ times n k m le = mul-le-mul_left n le
 
 -- ---- the header's numbers
 
-record HeaderFits (h : Header) : Type 0 where
+pub record HeaderFits (h : Header) : Type 0 where
   pub flags : h.flags < 2 ^ 16
   pub type : FitsSigned w32 h.type_id
   pub length : FitsSigned w32 h.length
@@ -138,7 +138,7 @@ raw_fits s bytes = record {
   schema = field_fits s 16 bytes;
 }
 
-header_fits : (s : List ℕ) (h : Header) → AreBytes s → header_of s ≡ Some h → HeaderFits h
+pub header_fits : (s : List ℕ) (h : Header) → AreBytes s → header_of s ≡ Some h → HeaderFits h
 header_fits s h bytes e = subst HeaderFits (header_is s h e) (raw_fits s bytes)
 
 shape_within : (shape : Shape) (n w : ℕ) (header : Header) → IsShape header n shape → shape_nodes shape ≤ 1 + n * (shape_key shape + w)
@@ -295,14 +295,14 @@ fnv_small (id ∷ ids) = fnv_below 0x811C9DC5 (flat_map (LE w32) (id ∷ ids)) (
 cast_fits : (n : ℕ) → n < 2 ^ 32 → FitsSigned w32 (cast_signed w32 n)
 cast_fits n lt = sfits_to_z (Fits-of_lt lt)
 
-schema_fits : (ids : List ℤ) → FitsSigned w32 (schema_of ids)
+pub schema_fits : (ids : List ℤ) → FitsSigned w32 (schema_of ids)
 schema_fits ids = cast_fits (Fnv ids) (fnv_small ids)
 
-hash_fits : (bytes : List ℕ) → FitsSigned w32 (cast_signed w32 (BytesHash bytes))
+pub hash_fits : (bytes : List ℕ) → FitsSigned w32 (cast_signed w32 (BytesHash bytes))
 hash_fits bytes = cast_fits (BytesHash bytes) (hash_after-in_range 1 bytes (omega arith))
 
 -- a header whose numbers are in range
-record IsHeaderInRange (h : Header) : Type 0 where
+pub record IsHeaderInRange (h : Header) : Type 0 where
   pub version : h.version < 256
   pub flags : h.flags < 2 ^ 16
   pub type : FitsSigned w32 h.type_id
@@ -339,7 +339,7 @@ header_are_bytes h lt =
 number_there : (z : ℤ) → FitsSigned w32 z → cast_signed w32 (from_le_bytes w32 (LE w32 z)) ≡ z
 number_there z fits = (signed_number w32 wide32).suffix z fits
 
-header_again : (h : Header) (rest : List ℕ) → IsHeaderInRange h → header_of (103 ∷ (header_bytes h ++ rest)) ≡ Some h
+pub header_again : (h : Header) (rest : List ℕ) → IsHeaderInRange h → header_of (103 ∷ (header_bytes h ++ rest)) ≡ Some h
 unfolding header_of header_bytes LE
 header_again h rest r =
     let flags : from_le_bytes w16 (LE w16 (pos h.flags)) ≡ h.flags = (unsigned_number w16 wide16).suffix h.flags r.flags in
@@ -366,7 +366,7 @@ header_again h rest r =
 -- ---- flags
 
 -- what the canonical flags of an object with fields say
-record CanonicalFlags (kept : ℕ) (flags : ℕ) (one two compact : Bool) : Type 0 where
+pub record CanonicalFlags (kept : ℕ) (flags : ℕ) (one two compact : Bool) : Type 0 where
   pub small : flags < 2 ^ 16
   pub has_schema : has_flag 2 flags ≡ true
   pub no_raw_data : has_flag 4 flags ≡ false
@@ -388,7 +388,7 @@ width_number one two = cond one 8 (cond two 16 0)
 abbrev compact_number : Bool → ℕ
 compact_number compact = cond compact 32 0
 
-flags_by : (kept : ℕ) → kept < 2 ^ 16 → kept_flags kept ≡ kept → (one two compact : Bool) → CanonicalFlags kept (kept + 2 + width_number one two + compact_number compact) one (not one && two) compact
+pub flags_by : (kept : ℕ) → kept < 2 ^ 16 → kept_flags kept ≡ kept → (one two compact : Bool) → CanonicalFlags kept (kept + 2 + width_number one two + compact_number compact) one (not one && two) compact
 flags_by kept lt same true two true = record { small = omega (arith, lt, same); has_schema = flag_set 2 _ (omega (arith, same)); no_raw_data = flag_clear 4 _ (omega (arith, same)); one_byte = flag_set 8 _ (omega (arith, same)); two_bytes = flag_clear 16 _ (omega (arith, same)); is_compact = flag_set 32 _ (omega (arith, same)); bits = omega (arith, same) }
 flags_by kept lt same true two false = record { small = omega (arith, lt, same); has_schema = flag_set 2 _ (omega (arith, same)); no_raw_data = flag_clear 4 _ (omega (arith, same)); one_byte = flag_set 8 _ (omega (arith, same)); two_bytes = flag_clear 16 _ (omega (arith, same)); is_compact = flag_clear 32 _ (omega (arith, same)); bits = omega (arith, same) }
 flags_by kept lt same false true true = record { small = omega (arith, lt, same); has_schema = flag_set 2 _ (omega (arith, same)); no_raw_data = flag_clear 4 _ (omega (arith, same)); one_byte = flag_clear 8 _ (omega (arith, same)); two_bytes = flag_set 16 _ (omega (arith, same)); is_compact = flag_set 32 _ (omega (arith, same)); bits = omega (arith, same) }
@@ -415,7 +415,7 @@ last_place at (piece ∷ []) = omega arith
 last_place at (piece ∷ next ∷ pieces) =
     omega (arith, last_place (at + length piece) (next ∷ pieces), length-append piece (flat_map (λ (b : List ℕ). b) (next ∷ pieces)))
 
-type_by : (flags : ℕ) (one two : Bool) → has_flag 8 flags ≡ one → has_flag 16 flags ≡ (not one && two) → offset_type flags ≡ cond one w8 (cond two w16 w32)
+pub type_by : (flags : ℕ) (one two : Bool) → has_flag 8 flags ≡ one → has_flag 16 flags ≡ (not one && two) → offset_type flags ≡ cond one w8 (cond two w16 w32)
 type_by flags true two a b = rw a refl
 type_by flags false two a b = rw (a, b) refl
 
@@ -446,7 +446,7 @@ canonical_shape : (header : Header) (shape : Shape) (n : ℕ) → IsLimitedShape
 canonical_shape header (Named ids) n f compact schema = (compact, schema, f.0, f.1)
 canonical_shape header (Compact id) n f compact schema = (compact, schema)
 
-canonical_schema_fits : (shape : Shape) (n : ℕ) → IsLimitedShape n shape → FitsSigned w32 (canonical_schema shape)
+pub canonical_schema_fits : (shape : Shape) (n : ℕ) → IsLimitedShape n shape → FitsSigned w32 (canonical_schema shape)
 canonical_schema_fits (Named ids) n f = schema_fits ids
 canonical_schema_fits (Compact id) n f = f.0
 

@@ -29,9 +29,9 @@ pub record IsBuilt (bits : ℕ) (type : ℤ) (fields : List (ℤ × Value)) (o :
   pub is : o ≡ object_of bits type fields
   pub fits : IsLimitedObject (FitsTo 31) o
 
--- the refusal is right; out of memory always is
+-- the refusal is right: it is the first that holds, and memory is asked for where none does
 abbrev pub IsRefused : ℕ → ℤ → List (ℤ × Value) → BuildFault → Type 0
 IsRefused bits type fields fault.Bits = kept_flags bits ≢ bits
 IsRefused bits type fields fault.TypeId = (kept_flags bits ≡ bits) × (type ≡ pos 0)
 IsRefused bits type fields fault.Deep = (kept_flags bits ≡ bits) × (type ≢ pos 0) × ¬ AreShallow fields
-IsRefused bits type fields fault.NoMemory = Unit {0}
+IsRefused bits type fields fault.NoMemory = IsBuildable bits type fields

@@ -135,9 +135,9 @@ abbrev pub laid_at : {X : Type 0} → (List ℕ → Read X) → ℕ → ℕ → 
 laid_at inner distance at_offset end [] [] = Ok []
 laid_at inner distance at_offset end [] (b ∷ s) = Err (20, cause.Offset)
 laid_at inner distance at_offset end (offset ∷ offsets) s = if offset == end - length s then (do
-    x ← turned end (inner s)
-    xs ← laid_at inner distance (at_offset + distance) end offsets x.1
-    Ok (x.0 ∷ xs)) else Err (at_offset, cause.Offset)
+  x ← turned end (inner s)
+  xs ← laid_at inner distance (at_offset + distance) end offsets x.1
+  Ok (x.0 ∷ xs)) else Err (at_offset, cause.Offset)
 
 -- the object with these fields
 abbrev pub object_with : {X : Type 0} → Header → List ℕ → List X → Record X

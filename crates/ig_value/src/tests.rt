@@ -1,3 +1,5 @@
+ghost use Rattle.ig_value.specs.Limits.{Fits};
+
 use super::*;
 use ig_base::{Boxed, Items, Text};
 use std::alloc::Global;
@@ -52,17 +54,21 @@ fn copies_are_the_same(rt: HostRuntime) -> Result<(), Fail> {
     Ok(())
 }
 
-/// What building an object with one field, of identifier 97, answers.
-fn built_with(
-    rt: &HostRuntime,
+/// The fault of building an object with this field, of identifier 97, if any.
+fn fault_of(
+    alloc: Global,
     bits: u16,
     type_id: i32,
     field: Value,
-) -> Result<Result<Object, BuildFault>, Fail> {
-    assert!(rt; field.keeps_to_limits());
-    let mut fields = Vec::new(rt.alloc());
+) -> Result<Option<BuildFault>, Fail>
+    requires { Fits field }
+{
+    let mut fields = Vec::new(alloc);
     fields.push((97, field))?;
-    Ok(Object::build(rt.alloc(), bits, type_id, fields))
+    match Object::build(alloc, bits, type_id, fields) {
+        Ok(_) => Ok(None),
+        Err(fault) => Ok(Some(fault)),
+    }
 }
 
 /// Flags, a type, the levels around a field's text, and the fault of building an object of them.
@@ -82,55 +88,64 @@ static FAULTS: [(u16, i32, u32, Option<BuildFault>); 9] = [
 fn objects_are_refused_in_order(rt: HostRuntime) -> Result<(), Fail> {
     for (bits, type_id, levels, fault) in &FAULTS {
         let field = nested(rt.alloc(), *levels)?;
-        let found = built_with(&rt, *bits, *type_id, field)?;
-        assert_eq!(rt; found.err(), *fault);
+        assert!(rt; field.keeps_to_limits());
+        assert_eq!(rt; fault_of(rt.alloc(), *bits, *type_id, field)?, *fault);
     }
-    Ok(())
-}
-
-#[test]
-fn objects_are_built_of_their_fields(rt: HostRuntime) -> Result<(), Fail> {
-    let built = built_with(&rt, 1, 112, Value::Int(5))??;
-    let written = Record {
-        bits: 1,
-        type_id: 112,
-        shape: Shape::Named(list(rt.alloc(), 97)?),
-        fields: list(rt.alloc(), Value::Int(5))?,
-    };
-    let built = Value::Object(Boxed::new(rt.alloc(), built)?);
-    let written = Value::Object(Boxed::new(rt.alloc(), written)?);
-    assert!(rt; built.same(&written));
-    assert!(rt; built.copy(rt.alloc())?.same(&written));
-    assert_eq!(rt; built.depth(), 2);
     Ok(())
 }
 
 /// An object of type 112 with this shape and one field, or without fields.
-fn shaped(alloc: Global, shape: Shape, has_field: bool) -> Result<Value, Fail> {
+fn shaped(alloc: Global, shape: Shape, has_field: bool) -> Result<Object, Fail> {
     let mut fields = Vec::new(alloc);
     if has_field {
         fields.push(Value::Null)?;
     }
-    Ok(Value::Object(Boxed::new(
-        alloc,
-        Record {
-            bits: 0,
-            type_id: 112,
-            shape,
-            fields: Items::new(fields),
-        },
-    )?))
+    Ok(Record {
+        bits: 1,
+        type_id: 112,
+        shape,
+        fields: Items::new(fields),
+    })
+}
+
+/// Whether such an object keeps to the limits, named or compact.
+fn shape_fits(alloc: Global, is_compact: bool, has_field: bool) -> Result<bool, Fail> {
+    let shape = if is_compact {
+        Shape::Compact(97)
+    } else {
+        Shape::Named(list(alloc, 97)?)
+    };
+    let object = shaped(alloc, shape, has_field)?;
+    Ok(Value::Object(Boxed::new(alloc, object)?).keeps_to_limits())
 }
 
 #[test]
-fn shapes_are_those_of_the_fields(rt: HostRuntime) -> Result<(), Fail> {
-    let alloc = rt.alloc();
-    let named = shaped(alloc, Shape::Named(list(alloc, 97)?), true)?;
-    let compact = shaped(alloc, Shape::Compact(97), true)?;
-    assert!(rt; named.keeps_to_limits());
-    assert!(rt; compact.keeps_to_limits());
-    assert!(rt; !named.same(&compact));
-    assert!(rt; !shaped(alloc, Shape::Named(list(alloc, 97)?), false)?.keeps_to_limits());
-    assert!(rt; !shaped(alloc, Shape::Compact(97), false)?.keeps_to_limits());
+fn a_shape_is_that_of_the_fields(rt: HostRuntime) -> Result<(), Fail> {
+    assert!(rt; shape_fits(rt.alloc(), false, true)?);
+    assert!(rt; !shape_fits(rt.alloc(), false, false)?);
+    assert!(rt; shape_fits(rt.alloc(), true, true)?);
+    assert!(rt; !shape_fits(rt.alloc(), true, false)?);
+    Ok(())
+}
+
+/// An object of type 112 with this field, of identifier 97, as it is built.
+fn built(alloc: Global, field: Value) -> Result<Object, Fail>
+    requires { Fits field }
+{
+    let mut fields = Vec::new(alloc);
+    fields.push((97, field))?;
+    Ok(Object::build(alloc, 1, 112, fields)?)
+}
+
+#[test]
+fn an_object_is_built_of_its_fields(rt: HostRuntime) -> Result<(), Fail> {
+    let field = Value::Null;
+    assert!(rt; field.keeps_to_limits());
+    let object = Boxed::new(rt.alloc(), built(rt.alloc(), field)?)?;
+    let named = shaped(rt.alloc(), Shape::Named(list(rt.alloc(), 97)?), true)?;
+    let value = Value::Object(object);
+    assert!(rt; value.keeps_to_limits());
+    assert!(rt; value.same(&Value::Object(Boxed::new(rt.alloc(), named)?)));
+    assert_eq!(rt; value.depth(), 2);
     Ok(())
 }
