@@ -36,8 +36,9 @@ mod values;
 mod window;
 mod window_output;
 
-pub use calls::{canonical_len, encode, encode_known, encode_part, object_hash};
+pub use calls::{canonical_len, encode, encode_known, encode_next, encode_part, object_hash};
 pub use length::Length;
+pub use mark::Mark;
 pub use measure::{Digest, Measure};
 pub use numbers::{put_byte, put_bytes, put_i16, put_i32, put_i64};
 pub use output::Output;

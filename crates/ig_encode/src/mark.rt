@@ -20,3 +20,31 @@ pub struct Mark {
     pub(crate) depth: usize,
     pub(crate) steps: [Step; DEEPEST],
 }
+
+impl Mark {
+    ghost use Rattle.std.specs.Prelude.{◌≡◌};
+    ghost use Rattle.ig_value.specs.declared.value.Value.{Value};
+    ghost use Rattle.ig_encode.specs.Marks.{IsMarkOf};
+
+    /// The mark of a value of which nothing was shown.
+    pub fn start() -> Mark
+        ensures offset { result.offset ≡ 0 }
+        ensures any { (value : Value) → IsMarkOf value result }
+    {
+        Mark {
+            offset: 0,
+            depth: 0,
+            steps: [Step {
+                index: 0,
+                before: 0,
+            }; DEEPEST],
+        }
+    }
+
+    /// How many bytes of the value were shown.
+    pub fn offset(&self) -> u64
+        ensures { result ≡ self.now.offset }
+    {
+        self.offset
+    }
+}

@@ -4,7 +4,7 @@ ghost use Rattle.std.specs.Prelude.{◌≡◌, ◌+◌, ◌-◌, ◌<◌, ◌≤
 ghost use Rattle.std.specs.List.{flat_map};
 ghost use Rattle.ig_value.specs.Canon.{Canon};
 ghost use Rattle.ig_encode.specs.WindowOutput.{window_after};
-ghost use Rattle.ig_encode.specs.Marks.{IsStep, IsPath, head_len, inner_values, paired_values, tail_bytes, first_of};
+ghost use Rattle.ig_encode.specs.Marks.{IsStep, IsPath, head_len, inner_values, paired_values, tail_bytes, first_of, kept_steps};
 
 use crate::fill_walk::{fill_pairs, fill_value, fill_values};
 use crate::footer::put_least_footer;
@@ -21,13 +21,25 @@ fn child_at(value: &Value, index: usize) -> Option<&Value>
     ensures small { IfSome result (λ child. index + 1 < 2 ^ 64) }
 {
     match value {
-        Value::Objects { items, .. } => items.as_slice().get(index),
-        Value::Collection { items, .. } => items.as_slice().get(index),
-        Value::Enums { items, .. } => items.as_slice().get(index),
+        Value::Objects { items, .. } => item_at(items.as_slice(), index),
+        Value::Collection { items, .. } => item_at(items.as_slice(), index),
+        Value::Enums { items, .. } => item_at(items.as_slice(), index),
         Value::Map { pairs, .. } => child_of_pairs(pairs.as_slice(), index),
-        Value::Object(object) => object.get().fields.as_slice().get(index),
+        Value::Object(object) => item_at(object.get().fields.as_slice(), index),
         _ => None,
     }
+}
+
+/// The value at this index, if any.
+fn item_at(values: &[Value], index: usize) -> Option<&Value>
+    ensures child { MatchOption result (slice_get values.now index ≡ None)
+        (λ child. slice_get values.now index ≡ Some child.now) }
+    ensures small { IfSome result (λ child. index + 1 < 2 ^ 64) }
+{
+    if index < values.len() {
+        return Some(&values[index]);
+    }
+    None
 }
 
 /// The same for the keys and values of a map, by turns.
@@ -36,7 +48,11 @@ fn child_of_pairs(pairs: &[(Value, Value)], index: usize) -> Option<&Value>
         (λ child. slice_get (paired_values pairs.now) index ≡ Some child.now) }
     ensures small { IfSome result (λ child. index + 1 < 2 ^ 64) }
 {
-    let pair = pairs.get(index / 2)?;
+    let at = index / 2;
+    if at >= pairs.len() {
+        return None;
+    }
+    let pair = &pairs[at];
     if index % 2 == 0 {
         return Some(&pair.0);
     }
@@ -89,9 +105,10 @@ fn fill_after(value: &Value, index: usize, out: &mut Window, into: &mut [u8])
         Value::Enums { items, .. } => fill_values(&items.as_slice()[index..], out, into),
         Value::Map { pairs, .. } => fill_from_pair(pairs.as_slice(), index, out, into),
         Value::Object(object) => {
-            let fields = object.get().fields.as_slice();
+            let object = object.get();
+            let fields = object.fields.as_slice();
             fill_values(&fields[index..], out, into);
-            put_least_footer(&object.get().shape, fields, out, into);
+            put_least_footer(&object.shape, fields, out, into);
         }
         _ => fill_value(value, out, into),
     }
@@ -106,15 +123,12 @@ fn fill_from_pair(pairs: &[(Value, Value)], index: usize, out: &mut Window, into
     if at >= pairs.len() {
         return;
     }
-    let (_, pairs) = pairs.split_at(at);
     if index % 2 == 0 {
-        fill_pairs(pairs, out, into);
+        fill_pairs(&pairs[at..], out, into);
         return;
     }
-    if let [pair, rest @ ..] = pairs {
-        fill_value(&pair.1, out, into);
-        fill_pairs(rest, out, into);
-    }
+    fill_value(&pairs[at].1, out, into);
+    fill_pairs(&pairs[at + 1..], out, into);
 }
 
 /// The offset after a value that begins at this one, if it isn't past the bound.
@@ -169,15 +183,22 @@ pub(crate) fn move_path(value: &Value, steps: &mut [Step], known: usize, offset:
         return 0;
     }
     let step = last_step(value, start, offset);
-    let below = if step.index == start.index {
-        known.saturating_sub(1)
-    } else {
-        0
-    };
+    let below = kept(known, start, step);
     steps[0] = step;
     match child_at(value, step.index) {
         Some(child) => 1 + move_path(child, &mut steps[1..], below, offset - step.before),
         None => 1,
+    }
+}
+
+/// How many of the steps below stay.
+fn kept(known: usize, start: Step, step: Step) -> usize
+    ensures { result ≡ kept_steps known start step }
+{
+    if step.index == start.index {
+        known.saturating_sub(1)
+    } else {
+        0
     }
 }
 

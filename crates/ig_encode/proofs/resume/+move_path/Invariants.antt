@@ -2,4 +2,4 @@ use Rattle.std.proofs.Common.{length}
 use Rattle.ig_encode.proofs.resume.+move_path.Given as goal
 
 abbrev pub decreases-move_path : goal.decreases-move_path
-decreases-move_path l = length l.steps
+decreases-move_path l = length l.steps.now
