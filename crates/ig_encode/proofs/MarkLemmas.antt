@@ -280,14 +280,15 @@ below_none child n true steps = tt
 below_none child n false steps = tt
 
 below_some : (v : Value) (n : ℕ) (s : Step) (steps : List Step) (k : ℕ) (t : Step) (child : Value) → IsPath v n (s ∷ take k steps) → IsStep (head_len v) (inner_values v) n t → slice_get (inner_values v) t.index ≡ Some child →
-    (b : Bool) → eqb t.index s.index ≡ b → IsPath child (n - t.before) (take (cond b k 0) steps)
+    (b : Bool) → eqb t.index s.index ≡ b → IsPath child (n - t.before) (take (cond b (suc k - 1) 0) steps)
 below_some v n s steps k t child h is e false not = tt
 below_some v n s steps k t child h is e true same =
     let index : t.index ≡ s.index = eqb-true t.index s.index same in
     let before : s.before ≡ t.before = h.0.there ∙ ap (λ (i : ℕ). head_len v + length (flat_map Canon (take i (inner_values v)))) (sym index) ∙ sym is.there in
     let at : slice_get (inner_values v) s.index ≡ Some child = ap (slice_get (inner_values v)) (sym index) ∙ e in
     let path : IsPath child (n - s.before) (take k steps) = subst (IfThere (λ c. IsPath c (n - s.before) (take k steps))) at h.1 in
-    subst (λ (m : ℕ). IsPath child (n - m) (take k steps)) before path
+    let there : IsPath child (n - t.before) (take k steps) = subst (λ (m : ℕ). IsPath child (n - m) (take k steps)) before path in
+    subst (λ (j : ℕ). IsPath child (n - t.before) (take j steps)) (let e : k ≡ suc k - 1 = omega arith in e) there
 
 -- the same steps below, where the step stayed
 pub below_path : (v : Value) (n : ℕ) (steps : List Step) (known : ℕ) (t : Step) (child : Value) → IsPath v n (take known steps) → IsStep (head_len v) (inner_values v) n t → slice_get (inner_values v) t.index ≡ Some child →
