@@ -98,9 +98,10 @@ later_if P Q f (Some child) h = f child h
 -- a path goes towards each offset after
 pub path_later : (v : Value) (m n : ℕ) (steps : List Step) → m ≤ n → IsPath v m steps → IsPath v n steps
 path_later v m n [] le h = tt
-path_later v m n (s ∷ steps) le h =
-    (record { within = h.0.within; there = h.0.there; reached = omega (arith, h.0.reached, le) },
-    later_if (λ child. IsPath child (m - s.before) steps) (λ child. IsPath child (n - s.before) steps) (λ child is. path_later child (m - s.before) (n - s.before) steps (omega (arith, le)) is) (slice_get (inner_values v) s.index) h.1)
+path_later v m n (s ∷ steps) le h = (
+  record { within = h.0.within; there = h.0.there; reached = omega (arith, h.0.reached, le) },
+  later_if (λ child. IsPath child (m - s.before) steps) (λ child. IsPath child (n - s.before) steps) (λ child is. path_later child (m - s.before) (n - s.before) steps (omega (arith, le)) is) (slice_get (inner_values v) s.index) h.1,
+)
 
 -- ---- the values inside, by the kind of value
 
@@ -143,6 +144,7 @@ get_even (q ∷ ps) zero p e = (ap (first_half q) e, ap (second_half q) e) where
   first_half : Value × Value → Option (Value × Value) → Option Value
   first_half q None = None
   first_half q (Some p) = Some p.0
+
   second_half : Value × Value → Option (Value × Value) → Option Value
   second_half q None = None
   second_half q (Some p) = Some p.1

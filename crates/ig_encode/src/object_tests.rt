@@ -1,4 +1,4 @@
-ghost use Rattle.std.specs.Prelude.{◌<◌, length};
+ghost use Rattle.std.specs.Prelude.{◌<◌, ◌≤◌, length};
 
 use super::*;
 use ig_base::{Boxed, Items, Octets, Text};
@@ -167,5 +167,61 @@ fn offsets_have_the_least_width(rt: HostRuntime) -> Result<(), Fail> {
         assert_eq!(rt; encode_part(&value, (*len - 4) as u64, &mut tail), 4);
         assert_eq!(rt; &tail[..4], last.as_slice());
     }
+    Ok(())
+}
+
+/// Whether the value is shown right where it is cut at this offset and five bytes further.
+fn is_shown(value: &Value, bytes: &[u8], cut: usize) -> bool
+    requires within { cut ≤ length bytes.now }
+    requires short { length bytes.now ≤ 100 }
+{
+    if canonical_len(value) != bytes.len() as u128 {
+        return false;
+    }
+    let mut mark = Mark::start();
+    let mut into = [0u8; 100];
+    let first = encode_next(value, &mut mark, &mut into[..cut]);
+    if first != cut || into[..cut] != bytes[..cut] {
+        return false;
+    }
+    let second = encode_next(value, &mut mark, &mut into[..5]);
+    if !bytes[cut..].starts_with(&into[..second]) {
+        return false;
+    }
+    let third = encode_next(value, &mut mark, &mut into);
+    bytes.ends_with(&into[..third]) && cut + second + third == bytes.len()
+}
+
+fn is_shown_at_every_cut(value: &Value, bytes: &[u8]) -> bool
+    requires { length bytes.now ≤ 100 }
+{
+    for cut in 0..bytes.len() {
+        if !is_shown(value, bytes, cut) {
+            return false;
+        }
+    }
+    is_shown(value, bytes, bytes.len())
+}
+
+/// A list with a map in it.
+static LISTED: [u8; 27] = [
+    24, 2, 0, 0, 0, 1, 101, 25, 2, 0, 0, 0, 2, 8, 0, 3, 1, 2, 3, 4, 101, 9, 1, 0, 0, 0, 0x61,
+];
+
+fn listed(alloc: Global) -> Result<Value, Fail> {
+    let text = Value::Str(Text::new(String::from_str(alloc, "a")?));
+    let first = (Value::Bool(false), Value::Int(0x0403_0201));
+    let pairs = pair(alloc, first, (Value::Null, text))?;
+    let items = pair(alloc, Value::Null, Value::Map { kind: 2, pairs })?;
+    Ok(Value::Collection { kind: 1, items })
+}
+
+#[test]
+fn marks_go_on_at_every_cut(rt: HostRuntime) -> Result<(), Fail> {
+    let alloc = rt.alloc();
+    assert!(rt; is_shown_at_every_cut(&value(alloc, person(alloc)?)?, &PERSON));
+    assert!(rt; is_shown_at_every_cut(&value(alloc, nested(alloc)?)?, &NESTED));
+    assert!(rt; is_shown_at_every_cut(&value(alloc, empty(alloc))?, &EMPTY));
+    assert!(rt; is_shown_at_every_cut(&listed(alloc)?, &LISTED));
     Ok(())
 }

@@ -5,9 +5,13 @@ use Rattle.ig_encode.proofs.resume.+move_path.Goals as goal
 
 pub move_path-requires : goal.move_path-requires
 move_path-requires t c =
-    let more = eqb-false (length c.args.steps.now) 0 (sym c.is_empty.ensures ∙ c.if-is_empty.false) in
-    (omega (arith, more, below_len c.args.steps.now c.last_step-step.result), (below_within c.args.steps.now c.args.known c.kept-below.result c.first_step-start.result c.last_step-step.result c.requires.known c.kept-below.ensures,
-    below_there c.args.value.now c.args.offset c.args.steps.now c.args.known c.kept-below.result c.first_step-start.result c.last_step-step.result c.in-Some.child.now c.requires.path c.first_step-start.ensures c.last_step-step.ensures c.in-Some.ensures.child c.kept-below.ensures))
+    let more = eqb-false (length c.args.steps.now) 0 (sym c.is_empty.ensures ∙ c.if-is_empty.false) in (
+      omega (arith, more, below_len c.args.steps.now c.last_step-step.result),
+      (
+        below_within c.args.steps.now c.args.known c.kept-below.result c.first_step-start.result c.last_step-step.result c.requires.known c.kept-below.ensures,
+        below_there c.args.value.now c.args.offset c.args.steps.now c.args.known c.kept-below.result c.first_step-start.result c.last_step-step.result c.in-Some.child.now c.requires.path c.first_step-start.ensures c.last_step-step.ensures c.in-Some.ensures.child c.kept-below.ensures,
+      ),
+    )
 
 pub returns-in-Some-clause-path : goal.returns-in-Some-clause-path
 returns-in-Some-clause-path t c =
