@@ -1,2 +1,6 @@
 pub mod OutputLemmas
 pub mod CanonLemmas
+pub mod DigestLemmas
+pub mod SpanLemmas
+pub mod MeasureLemmas
+pub mod MarkLemmas

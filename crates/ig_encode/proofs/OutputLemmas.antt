@@ -37,7 +37,7 @@ first_passed after longer h width wide s into xs back n t u le is a b =
     let all : flat_map h xs ≡ front ++ flat_map h back = ap (flat_map h) (sym (take-append-drop n xs)) ∙ flat_map-append h (take n xs) (drop n xs) ∙ ap (λ (l : List _). front ++ flat_map h l) (sym is) in
     two after longer s into front (flat_map h back) t u (a front bytes) b ∙ ap (after s into) (sym all)
 
-flat_map_more : {A : Type 0} (h : A → List ℕ) (xs : List A) (i : ℕ) (d : A) → i < length xs → flat_map h (take (i + 1) xs) ≡ flat_map h (take i xs) ++ h (get_or xs i d)
+pub flat_map_more : {A : Type 0} (h : A → List ℕ) (xs : List A) (i : ℕ) (d : A) → i < length xs → flat_map h (take (i + 1) xs) ≡ flat_map h (take i xs) ++ h (get_or xs i d)
 flat_map_more h xs i d lt =
     ap (flat_map h) (take_at_read xs i d lt).1 ∙ flat_map-append h (take i xs) (get_or xs i d ∷ []) ∙ ap (λ (l : List ℕ). flat_map h (take i xs) ++ l) (append-nil (h (get_or xs i d)))
 
@@ -76,3 +76,13 @@ pub placed : {S : Type 0} (after : Takes S) (s r t : S) (into : List ℕ) (at : 
 placed {S} after s r t into at bytes now same a w =
     let beside : List ℕ → S × List ℕ = λ l. (t, l) in
     ap beside w ∙ sym a ∙ ap (λ (x : S). after x into bytes) same
+
+-- an output that took nothing
+pub each_none : {S : Type 0} (after : Takes S) → ((s : S) (into : List ℕ) → after s into [] ≡ (s, into)) → (s : S) (into : List ℕ) → (s, into) ≡ after s into []
+each_none after empty s into = sym (empty s into)
+
+-- the first items, and one more
+pub each_more : {S A : Type 0} (after : Takes S) → TakesLonger after → (h : A → List ℕ) (s : S) (into : List ℕ) (xs : List A) (i : ℕ) (x : A) (t u : S × List ℕ) → i < length xs → x ≡ get_or xs i x →
+    t ≡ after s into (flat_map h (take i xs)) → u ≡ after t.0 t.1 (h x) → u ≡ after s into (flat_map h (take (i + 1) xs))
+each_more after longer h s into xs i x t u lt item before step =
+    two after longer s into (flat_map h (take i xs)) (h x) t u before step ∙ ap (after s into) (ap (λ (y : _). flat_map h (take i xs) ++ h y) item ∙ sym (flat_map_more h xs i x lt))

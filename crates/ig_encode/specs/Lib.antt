@@ -1,6 +1,9 @@
 pub mod Splice
-pub mod LengthOutput
+pub mod MeasureOutput
 pub mod WindowOutput
 pub mod ScalarLengths
 pub mod ListBytes
 pub mod HeadBytes
+pub mod Leaves
+pub mod Spans
+pub mod Marks

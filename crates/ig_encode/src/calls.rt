@@ -1,13 +1,21 @@
 //! The calls that encode.
 
 ghost use Rattle.std.specs.Prelude.{◌≡◌, ◌-◌, ◌+◌, ◌^◌, ◌≤◌, ◌++◌, min, length, take, drop, replicate, OnOk, OnErr};
+ghost use Rattle.std.specs.Int.{w32, cast_signed};
+ghost use Rattle.std.specs.List.{flat_map};
+ghost use Rattle.ig_base.specs.Hashes.{BytesHash};
 ghost use Rattle.ig_value.specs.Canon.{Canon, IsSendable};
+ghost use Rattle.ig_encode.specs.Marks.{IsMarkOf};
 
-use crate::length::Length;
-use crate::walk::put_value;
+use crate::fill_walk::fill_value;
+use crate::mark::Mark;
+use crate::measure::Measure;
+use crate::measure_walk::{measure_value, measure_values};
+use crate::object::hash_of;
+use crate::resume::{fill_from, move_path};
 use crate::window::Window;
 use ig_base::{NoMemory, Octets};
-use ig_value::Value;
+use ig_value::{Object, Value};
 use std::alloc::Global;
 use std::mem;
 
@@ -18,10 +26,9 @@ use std::mem;
 pub fn canonical_len(value: &Value) -> u128
     ensures { result ≡ min (length (Canon value.now)) (2 ^ 128 - 1) }
 {
-    let mut count = Length::new();
-    let mut none = [0u8; 0];
-    put_value(value, &mut count, &mut none);
-    count.total()
+    let mut measure = Measure::counting();
+    measure_value(value, &mut measure);
+    measure.length.total()
 }
 
 /// Fills the slice with the bytes of the canonical form from an offset on. Answers how many bytes
@@ -30,12 +37,32 @@ pub fn encode_part(value: &Value, from: u64, into: &mut [u8]) -> usize
     ensures count { result ≡ min (length into.old) (length (Canon value.now) - from) }
     ensures bytes { into.new ≡ take result (drop from (Canon value.now)) ++ drop result into.old }
 {
-    let mut part = Window {
-        skip: from,
-        filled: 0,
-    };
-    put_value(value, &mut part, into);
-    part.filled
+    let mut window = Window::from(from);
+    fill_value(value, &mut window, into);
+    window.filled
+}
+
+/// Fills the slice with the next bytes of the canonical form, from the mark on, and moves the mark past
+/// them. Answers how many bytes it filled, as [`encode_part`] does. Takes no memory.
+///
+/// What stands before the mark isn't walked again, so a value that is shown piece by piece takes time of
+/// the order of its length. The mark has to be one of this value.
+pub fn encode_next(value: &Value, mark: &mut Mark, into: &mut [u8]) -> usize
+    requires sendable { IsSendable value.now }
+    requires mark { IsMarkOf value.now mark.old }
+    ensures count { result
+        ≡ min (length into.old) (length (Canon value.now) - mark.old.offset) }
+    ensures bytes { into.new
+        ≡ take result (drop mark.old.offset (Canon value.now)) ++ drop result into.old }
+    ensures moved { mark.new.offset ≡ mark.old.offset + result }
+    ensures mark { IsMarkOf value.now mark.new }
+{
+    let mut window = Window::from(mark.offset);
+    fill_from(value, &mark.steps[..mark.depth], &mut window, into);
+    let filled = window.filled;
+    mark.offset += filled as u64;
+    mark.depth = move_path(value, &mut mark.steps[..], mark.depth, mark.offset);
+    filled
 }
 
 /// Appends the canonical form. It takes its memory first, so an error leaves the bytes as they
@@ -70,6 +97,16 @@ pub fn encode_known(
     }
     *out = Octets::new(bytes);
     grown
+}
+
+/// The hash of an object, as the header of its canonical form has it: over the canonical forms of
+/// its fields. Takes no memory, so it never refuses.
+pub fn object_hash(object: &Object) -> Result<i32, NoMemory>
+    ensures { result ≡ Ok (cast_signed w32 (BytesHash (flat_map Canon object.now.fields))) }
+{
+    let mut measure = Measure::hashing();
+    measure_values(object.fields.as_slice(), &mut measure);
+    Ok(hash_of(&measure))
 }
 
 /// Appends this many bytes, which are 0.

@@ -4,7 +4,7 @@ ghost use Rattle.std.specs.Prelude.{◌≡◌, ◌+◌, ◌*◌, ◌<◌, ◌≤
 ghost use Rattle.ig_encode.specs.Splice.{splice};
 
 /// An output takes the bytes of a value in order, and may put some of them into a slice.
-pub(crate) trait Output {
+pub trait Output {
     /// The output and the slice after more bytes.
     ghost after: { Self → List ℕ → List ℕ → Self × List ℕ };
 

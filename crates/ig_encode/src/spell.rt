@@ -285,9 +285,9 @@ impl WriteElement for bool {
     }
 }
 
-/// Puts an Int32 count.
+/// Puts a count of bytes or items, an Int32.
 #[tactic(auto, unfolding(ig_base::specs::Numbers::LE))]
-pub(crate) fn put_count<S: Output>(count: usize, out: &mut S, into: &mut [u8])
+pub fn put_count<S: Output>(count: usize, out: &mut S, into: &mut [u8])
     ensures { (out.new, into.new) ≡ S.after out.old into.old (LE w32 (pos count)) }
 {
     let bytes = count.to_le_bytes();

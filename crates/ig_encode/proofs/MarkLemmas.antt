@@ -1,0 +1,354 @@
+-- Paths of marks.
+use Rattle.std.proofs.Common.{◌≡◌, ℕ, ℤ, suc, zero, ◌+◌, ◌-◌, ◌≤◌, ◌<◌, List, [], ◌∷◌, ◌++◌, pos, length, map, take, drop, refl, sym, ap, subst, ◌∙◌, arith, append_assoc, length-append, drop_of_length-le, get_or, set, Bool, true, false, cond, eqb, ◌*◌, ◌/◌, ◌%◌, Option, Some, None}
+use Rattle.std.specs.Prelude.{slice_get}
+use Rattle.std.specs.Int.{w8, w32}
+use Rattle.std.specs.List.{flat_map}
+use Rattle.std.proofs.lemmas.List.{take-append-drop, append-nil, take_all, take-take, length-drop}
+use Rattle.std.proofs.lemmas.Slice.{take-put_mid}
+use borrow.Rule.Slice.PartMut.{put_mid}
+use Rattle.std.proofs.lemmas.Bool.{eqb-true}
+use Rattle.ig_encode.specs.declared.window.Window.{Window}
+use Rattle.ig_encode.specs.WindowOutput.{window_after, filled_longer, filled_before, beside}
+use Rattle.ig_encode.proofs.OutputLemmas.{two}
+use Rattle.std.proofs.lemmas.Grind.{flat_map-append}
+use Rattle.ig_base.specs.Numbers.{LE}
+use Rattle.ig_base.specs.Headers.{header_bytes}
+use Rattle.ig_value.specs.declared.value.Value.{Value, out-Value}
+use Rattle.ig_value.specs.declared.object.Record.{Record}
+use Rattle.ig_value.specs.declared.value.Value.TheVariants as value
+use Rattle.ig_value.specs.declared.value.Value.TheOpen.{Value-F}
+use Rattle.ig_value.specs.Table.{parts}
+use Rattle.ig_value.specs.Canon.{layer_bytes, Canon}
+use Rattle.ig_value.specs.Limits.{children, IfThere}
+use Rattle.ig_value.proofs.FoldLemmas.{Canon_out}
+use Rattle.ig_encode.specs.declared.mark.Step.{Step}
+use Rattle.ig_encode.specs.ListBytes.{pair_bytes}
+use Rattle.ig_encode.specs.Spans.{canonical_header, least_footer}
+use Rattle.ig_encode.specs.Marks.{head_size, head_len, inner_values, IsStep, IsPath, tail_with, tail_bytes, paired_values, first_of, kept_steps}
+use Rattle.ig_encode.proofs.SpanLemmas.{object_split, header_len}
+
+-- ---- the canonical form, cut between two values inside
+
+-- a prefix of this length, the values inside from the index on, and what stands after them
+pub record IsCutAt (whole : List ℕ) (head : ℕ) (inside : List Value) (tail : List ℕ) (i : ℕ) : Type 0 where
+  pub prefix : List ℕ
+  pub size : length prefix ≡ head + length (flat_map Canon (take i inside))
+  pub is : whole ≡ prefix ++ (flat_map Canon (drop i inside) ++ tail)
+
+flat_cut : (xs : List Value) (i : ℕ) → flat_map Canon xs ≡ flat_map Canon (take i xs) ++ flat_map Canon (drop i xs)
+flat_cut xs i = ap (flat_map Canon) (sym (take-append-drop i xs)) ∙ flat_map-append Canon (take i xs) (drop i xs)
+
+-- values that stand after a head
+cut_list : (head : List ℕ) (n : ℕ) (xs : List Value) (tail : List ℕ) (whole : List ℕ) (i : ℕ) → length head ≡ n → whole ≡ head ++ (flat_map Canon xs ++ tail) → IsCutAt whole n xs tail i
+cut_list head n xs tail whole i len is =
+    let front = flat_map Canon (take i xs) in
+    let back = flat_map Canon (drop i xs) in
+    record {
+      prefix = head ++ front;
+      size = length-append head front ∙ ap (λ (m : ℕ). m + length front) len;
+      is = is ∙ ap (λ (l : List ℕ). head ++ (l ++ tail)) (flat_cut xs i) ∙ ap (λ (l : List ℕ). head ++ l) (append_assoc front back tail) ∙ sym (append_assoc head front (back ++ tail));
+    }
+
+paired_flat : (ps : List (Value × Value)) → flat_map pair_bytes ps ≡ flat_map Canon (paired_values ps)
+paired_flat [] = refl
+paired_flat (p ∷ ps) = ap (λ (l : List ℕ). (Canon p.0 ++ Canon p.1) ++ l) (paired_flat ps) ∙ append_assoc (Canon p.0) (Canon p.1) (flat_map Canon (paired_values ps))
+
+six : (byte : ℕ) (n : ℕ) (kind : ℤ) → length (byte ∷ (LE w32 (pos n) ++ LE w8 kind)) ≡ 6
+unfolding LE
+six byte n kind = refl
+
+nine : (byte : ℕ) (type : ℤ) (n : ℕ) → length (byte ∷ (LE w32 type ++ (LE w32 (pos n) ++ []))) ≡ 9
+unfolding LE
+nine byte type n = refl
+
+leaf_cut : (whole : List ℕ) (i : ℕ) → i ≤ 0 → IsCutAt whole 0 [] whole i
+leaf_cut whole zero le = record { prefix = []; size = refl; is = refl }
+leaf_cut whole (suc i) le = absurd (omega (arith, le))
+
+cut_open : (whole : List ℕ) (x : Value-F Value) (i : ℕ) → whole ≡ layer_bytes Canon x → i ≤ length (children x) → IsCutAt whole (head_size (parts x).0) (children x) (tail_with whole x) i
+cut_open whole (Value-F.Objects type xs) i is le =
+    let head : List ℕ = 23 ∷ (LE w32 type ++ (LE w32 (pos (length xs)) ++ [])) in
+    cut_list head 9 xs [] whole i (nine 23 type (length xs)) (is ∙ ap (λ (l : List ℕ). 23 ∷ l) (sym (append_assoc (LE w32 type) (LE w32 (pos (length xs)) ++ []) (flat_map Canon xs ++ []) ∙ ap (λ (l : List ℕ). LE w32 type ++ l) (append_assoc (LE w32 (pos (length xs))) [] (flat_map Canon xs ++ []) ∙ ap (λ (l : List ℕ). LE w32 (pos (length xs)) ++ l) (append-nil (flat_map Canon xs))))))
+cut_open whole (Value-F.Enums type xs) i is le =
+    let head : List ℕ = 29 ∷ (LE w32 type ++ (LE w32 (pos (length xs)) ++ [])) in
+    cut_list head 9 xs [] whole i (nine 29 type (length xs)) (is ∙ ap (λ (l : List ℕ). 29 ∷ l) (sym (append_assoc (LE w32 type) (LE w32 (pos (length xs)) ++ []) (flat_map Canon xs ++ []) ∙ ap (λ (l : List ℕ). LE w32 type ++ l) (append_assoc (LE w32 (pos (length xs))) [] (flat_map Canon xs ++ []) ∙ ap (λ (l : List ℕ). LE w32 (pos (length xs)) ++ l) (append-nil (flat_map Canon xs))))))
+cut_open whole (Value-F.Collection kind xs) i is le =
+    let head : List ℕ = 24 ∷ (LE w32 (pos (length xs)) ++ LE w8 kind) in
+    cut_list head 6 xs [] whole i (six 24 (length xs) kind) (is ∙ ap (λ (l : List ℕ). 24 ∷ l) (sym (append_assoc (LE w32 (pos (length xs))) (LE w8 kind) (flat_map Canon xs ++ []) ∙ ap (λ (l : List ℕ). LE w32 (pos (length xs)) ++ (LE w8 kind ++ l)) (append-nil (flat_map Canon xs)))))
+cut_open whole (Value-F.Map kind ps) i is le =
+    let head : List ℕ = 25 ∷ (LE w32 (pos (length ps)) ++ LE w8 kind) in
+    let xs = paired_values ps in
+    cut_list head 6 xs [] whole i (six 25 (length ps) kind)
+    (is ∙ ap (λ (l : List ℕ). 25 ∷ (LE w32 (pos (length ps)) ++ (LE w8 kind ++ l))) (paired_flat ps) ∙ ap (λ (l : List ℕ). 25 ∷ l) (sym (append_assoc (LE w32 (pos (length ps))) (LE w8 kind) (flat_map Canon xs ++ []) ∙ ap (λ (l : List ℕ). LE w32 (pos (length ps)) ++ (LE w8 kind ++ l)) (append-nil (flat_map Canon xs)))))
+cut_open whole (Value-F.Object o) i is le =
+    let h = canonical_header o.bits o.type_id o.shape (map Canon o.fields) in
+    let head : List ℕ = 103 ∷ header_bytes h in
+    cut_list head 24 o.fields (least_footer o.shape o.fields) whole i (ap suc (header_len h)) (is ∙ ap (λ (l : List ℕ). 103 ∷ l) (object_split o.bits o.type_id o.shape o.fields))
+cut_open whole _ i is le = leaf_cut whole i le
+
+pub cut_at : (v : Value) (i : ℕ) → i ≤ length (inner_values v) → IsCutAt (Canon v) (head_len v) (inner_values v) (tail_bytes v) i
+cut_at v i le = cut_open (Canon v) (out-Value v) i (Canon_out v) le
+
+-- ---- paths
+
+later_if : (P Q : Value → Type 0) → ((child : Value) → P child → Q child) → (o : Option Value) → IfThere P o → IfThere Q o
+later_if P Q f None h = tt
+later_if P Q f (Some child) h = f child h
+
+-- a path goes towards each offset after
+pub path_later : (v : Value) (m n : ℕ) (steps : List Step) → m ≤ n → IsPath v m steps → IsPath v n steps
+path_later v m n [] le h = tt
+path_later v m n (s ∷ steps) le h = (
+  record { within = h.0.within; there = h.0.there; reached = omega (arith, h.0.reached, le) },
+  later_if (λ child. IsPath child (m - s.before) steps) (λ child. IsPath child (n - s.before) steps) (λ child is. path_later child (m - s.before) (n - s.before) steps (omega (arith, le)) is) (slice_get (inner_values v) s.index) h.1,
+)
+
+-- ---- the values inside, by the kind of value
+
+pub inner_objects : (v : Value) (type : ℤ) (xs : List Value) → v ≡ value.Objects type xs → (inner_values v ≡ xs) × (tail_bytes v ≡ [])
+inner_objects v type xs e = (ap (λ (w : Value). children (out-Value w)) e ∙ ap children (value.outs-Objects type xs), ap (λ (w : Value). tail_with (Canon v) (out-Value w)) e ∙ ap (tail_with (Canon v)) (value.outs-Objects type xs))
+
+pub inner_enums : (v : Value) (type : ℤ) (xs : List Value) → v ≡ value.Enums type xs → (inner_values v ≡ xs) × (tail_bytes v ≡ [])
+inner_enums v type xs e = (ap (λ (w : Value). children (out-Value w)) e ∙ ap children (value.outs-Enums type xs), ap (λ (w : Value). tail_with (Canon v) (out-Value w)) e ∙ ap (tail_with (Canon v)) (value.outs-Enums type xs))
+
+pub inner_collection : (v : Value) (kind : ℤ) (xs : List Value) → v ≡ value.Collection kind xs → (inner_values v ≡ xs) × (tail_bytes v ≡ [])
+inner_collection v kind xs e = (ap (λ (w : Value). children (out-Value w)) e ∙ ap children (value.outs-Collection kind xs), ap (λ (w : Value). tail_with (Canon v) (out-Value w)) e ∙ ap (tail_with (Canon v)) (value.outs-Collection kind xs))
+
+pub inner_map : (v : Value) (kind : ℤ) (ps : List (Value × Value)) → v ≡ value.Map kind ps → (inner_values v ≡ paired_values ps) × (tail_bytes v ≡ [])
+inner_map v kind ps e = (ap (λ (w : Value). children (out-Value w)) e ∙ ap children (value.outs-Map kind ps), ap (λ (w : Value). tail_with (Canon v) (out-Value w)) e ∙ ap (tail_with (Canon v)) (value.outs-Map kind ps))
+
+pub inner_object : (v : Value) (o : Record Value) → v ≡ value.Object o → (inner_values v ≡ o.fields) × (tail_bytes v ≡ least_footer o.shape o.fields)
+inner_object v o e = (ap (λ (w : Value). children (out-Value w)) e ∙ ap children (value.outs-Object o), ap (λ (w : Value). tail_with (Canon v) (out-Value w)) e ∙ ap (tail_with (Canon v)) (value.outs-Object o))
+
+-- ---- pairs
+
+pub get_within : {A : Type 0} (xs : List A) (i : ℕ) (d : A) → i < length xs → d ≡ get_or xs i d → slice_get xs i ≡ Some d
+get_within [] i d lt e = absurd (omega (arith, lt))
+get_within (x ∷ xs) zero d lt e = ap Some (sym e)
+get_within (x ∷ xs) (suc i) d lt e = get_within xs i d (omega (arith, lt)) e
+
+pub get_past : {A : Type 0} (xs : List A) (i : ℕ) → length xs ≤ i → slice_get xs i ≡ None
+get_past [] zero le = refl
+get_past [] (suc i) le = refl
+get_past (x ∷ xs) zero le = absurd (omega (arith, le))
+get_past (x ∷ xs) (suc i) le = get_past xs i (omega (arith, le))
+
+pub paired_len : (ps : List (Value × Value)) → length (paired_values ps) ≡ length ps + length ps
+paired_len [] = refl
+paired_len (p ∷ ps) = ap (λ (n : ℕ). suc (suc n)) (paired_len ps) ∙ (let e : suc (suc (length ps + length ps)) ≡ suc (length ps) + suc (length ps) = omega arith in e)
+
+get_even : (ps : List (Value × Value)) (k : ℕ) (p : Value × Value) → slice_get ps k ≡ Some p → (slice_get (paired_values ps) (k + k) ≡ Some p.0) × (slice_get (paired_values ps) (suc (k + k)) ≡ Some p.1)
+get_even [] zero p e = absurd cc
+get_even [] (suc k) p e = absurd cc
+get_even (q ∷ ps) zero p e = (ap (first_half q) e, ap (second_half q) e) where
+  first_half : Value × Value → Option (Value × Value) → Option Value
+  first_half q None = None
+  first_half q (Some p) = Some p.0
+
+  second_half : Value × Value → Option (Value × Value) → Option Value
+  second_half q None = None
+  second_half q (Some p) = Some p.1
+get_even (q ∷ ps) (suc k) p e =
+    let twice : suc k + suc k ≡ suc (suc (k + k)) = omega arith in
+    let more = get_even ps k p e in
+    (ap (slice_get (paired_values (q ∷ ps))) twice ∙ more.0, ap (λ (n : ℕ). slice_get (paired_values (q ∷ ps)) (suc n)) twice ∙ more.1)
+
+pub get_key : (ps : List (Value × Value)) (i : ℕ) (p : Value × Value) → i / 2 < length ps → p ≡ get_or ps (i / 2) p → i % 2 ≡ 0 → slice_get (paired_values ps) i ≡ Some p.0
+get_key ps i p lt item even =
+    let is : i ≡ i / 2 + i / 2 = omega (arith, even) in
+    ap (slice_get (paired_values ps)) is ∙ (get_even ps (i / 2) p (get_within ps (i / 2) p lt item)).0
+
+pub get_value : (ps : List (Value × Value)) (i : ℕ) (p : Value × Value) → i / 2 < length ps → p ≡ get_or ps (i / 2) p → (i % 2 ≡ 0 → ⊥) → slice_get (paired_values ps) i ≡ Some p.1
+get_value ps i p lt item odd =
+    let is : i ≡ suc (i / 2 + i / 2) = omega (arith, odd) in
+    ap (slice_get (paired_values ps)) is ∙ (get_even ps (i / 2) p (get_within ps (i / 2) p lt item)).1
+
+pub get_no_pair : (ps : List (Value × Value)) (i : ℕ) → length ps ≤ i / 2 → slice_get (paired_values ps) i ≡ None
+get_no_pair ps i le = get_past (paired_values ps) i (omega (arith, paired_len ps, le))
+
+drop_even : (ps : List (Value × Value)) (k : ℕ) → drop (k + k) (paired_values ps) ≡ paired_values (drop k ps)
+drop_even ps zero = refl
+drop_even [] (suc k) = let twice : suc k + suc k ≡ suc (suc (k + k)) = omega arith in ap (λ (n : ℕ). drop n (paired_values [])) twice
+drop_even (p ∷ ps) (suc k) = let twice : suc k + suc k ≡ suc (suc (k + k)) = omega arith in ap (λ (n : ℕ). drop n (paired_values (p ∷ ps))) twice ∙ drop_even ps k
+
+pub drop_keys : (ps : List (Value × Value)) (i : ℕ) → i % 2 ≡ 0 → flat_map Canon (drop i (paired_values ps)) ≡ flat_map pair_bytes (drop (i / 2) ps)
+drop_keys ps i even =
+    let is : i ≡ i / 2 + i / 2 = omega (arith, even) in
+    ap (λ (n : ℕ). flat_map Canon (drop n (paired_values ps))) is ∙ ap (flat_map Canon) (drop_even ps (i / 2)) ∙ sym (paired_flat (drop (i / 2) ps))
+
+drop_odd : (ps : List (Value × Value)) (k : ℕ) (p : Value × Value) → k < length ps → p ≡ get_or ps k p → drop (suc (k + k)) (paired_values ps) ≡ p.1 ∷ paired_values (drop (suc k) ps)
+drop_odd [] k p lt item = absurd (omega (arith, lt))
+drop_odd (q ∷ ps) zero p lt item = ap (λ (r : Value × Value). r.1 ∷ paired_values ps) (sym item)
+drop_odd (q ∷ ps) (suc k) p lt item = let twice : suc (suc k + suc k) ≡ suc (suc (suc (k + k))) = omega arith in ap (λ (n : ℕ). drop n (paired_values (q ∷ ps))) twice ∙ drop_odd ps k p (omega (arith, lt)) item
+
+pub drop_values : (ps : List (Value × Value)) (i : ℕ) (p : Value × Value) → i / 2 < length ps → p ≡ get_or ps (i / 2) p → (i % 2 ≡ 0 → ⊥) → flat_map Canon (drop i (paired_values ps)) ≡ Canon p.1 ++ flat_map pair_bytes (drop (i / 2 + 1) ps)
+drop_values ps i p lt item odd =
+    let is : i ≡ suc (i / 2 + i / 2) = omega (arith, odd) in
+    ap (λ (n : ℕ). flat_map Canon (drop n (paired_values ps))) is ∙ ap (flat_map Canon) (drop_odd ps (i / 2) p lt item)
+    ∙ ap (λ (l : List ℕ). Canon p.1 ++ l) (sym (paired_flat (drop (suc (i / 2)) ps)) ∙ ap (λ (n : ℕ). flat_map pair_bytes (drop n ps)) (let e : suc (i / 2) ≡ i / 2 + 1 = omega arith in e))
+
+pub drop_no_pair : (ps : List (Value × Value)) (i : ℕ) → length ps ≤ i / 2 → flat_map Canon (drop i (paired_values ps)) ≡ []
+drop_no_pair ps i le = ap (flat_map Canon) (drop_of_length-le (paired_values ps) (omega (arith, paired_len ps, le)))
+
+-- what stands from an index on, where nothing stands after the values inside
+pub after_index : (v : Value) (xs : List Value) (i : ℕ) → (inner_values v ≡ xs) × (tail_bytes v ≡ []) → flat_map Canon (drop i xs) ≡ flat_map Canon (drop i (inner_values v)) ++ tail_bytes v
+after_index v xs i e =
+    sym (append-nil (flat_map Canon (drop i xs))) ∙ ap (λ (l : List Value). flat_map Canon (drop i l) ++ []) (sym e.0) ∙ ap (λ (l : List ℕ). flat_map Canon (drop i (inner_values v)) ++ l) (sym e.1)
+
+-- the rest of a slice
+pub rest_all : {A : Type 0} (xs : List A) (i : ℕ) → take (length xs - i) (drop i xs) ≡ drop i xs
+rest_all xs i = take_all (length xs - i) (drop i xs) (omega (arith, length-drop i xs))
+
+pub object_after : (v : Value) (o : Record Value) (xs : List Value) (i : ℕ) → xs ≡ o.fields → v ≡ value.Object o → flat_map Canon (drop i xs) ++ least_footer o.shape xs ≡ flat_map Canon (drop i (inner_values v)) ++ tail_bytes v
+object_after v o xs i same is =
+    let inner = inner_object v o is in
+    ap (λ (l : List Value). flat_map Canon (drop i l) ++ least_footer o.shape l) same ∙ ap (λ (l : List Value). flat_map Canon (drop i l) ++ least_footer o.shape o.fields) (sym inner.0) ∙ ap (λ (l : List ℕ). flat_map Canon (drop i (inner_values v)) ++ l) (sym inner.1)
+
+-- ---- items of lists
+
+inside : {A : Type 0} (y x : A) → Some y ≡ Some x → y ≡ x
+inside {A} y x e = ap (unwrapped y) e where
+  unwrapped : A → Option A → A
+  unwrapped d None = d
+  unwrapped d (Some z) = z
+
+get_lt : {A : Type 0} (xs : List A) (i : ℕ) (x : A) → slice_get xs i ≡ Some x → i < length xs
+get_lt [] zero x e = absurd cc
+get_lt [] (suc i) x e = absurd cc
+get_lt (y ∷ xs) zero x e = omega arith
+get_lt (y ∷ xs) (suc i) x e = omega (arith, get_lt xs i x e)
+
+drop_get : {A : Type 0} (xs : List A) (i : ℕ) (x : A) → slice_get xs i ≡ Some x → drop i xs ≡ x ∷ drop (suc i) xs
+drop_get [] zero x e = absurd cc
+drop_get [] (suc i) x e = absurd cc
+drop_get (y ∷ xs) zero x e = ap (λ (z : _). z ∷ xs) (inside y x e)
+drop_get (y ∷ xs) (suc i) x e = drop_get xs i x e
+
+take_get : {A : Type 0} (xs : List A) (i : ℕ) (x : A) → slice_get xs i ≡ Some x → take (suc i) xs ≡ take i xs ++ x ∷ []
+take_get [] zero x e = absurd cc
+take_get [] (suc i) x e = absurd cc
+take_get (y ∷ xs) zero x e = ap (λ (z : _). z ∷ []) (inside y x e)
+take_get (y ∷ xs) (suc i) x e = ap (λ (l : List _). y ∷ l) (take_get xs i x e)
+
+-- ---- steps
+
+-- the step after a value that ends at or before the offset
+pub step_more : (head : ℕ) (xs : List Value) (n : ℕ) (s : Step) (child : Value) (end : ℕ) → IsStep head xs n s → slice_get xs s.index ≡ Some child → end ≡ s.before + length (Canon child) → end ≤ n → IsStep head xs n (record { index = s.index + 1; before = end })
+step_more head xs n s child end h e is le =
+    let more : flat_map Canon (take (s.index + 1) xs) ≡ flat_map Canon (take s.index xs) ++ Canon child =
+    ap (λ (i : ℕ). flat_map Canon (take i xs)) (let one : s.index + 1 ≡ suc s.index = omega arith in one) ∙ ap (flat_map Canon) (take_get xs s.index child e) ∙ flat_map-append Canon (take s.index xs) (child ∷ []) ∙ ap (λ (l : List ℕ). flat_map Canon (take s.index xs) ++ l) (append-nil (Canon child)) in
+    let lt = get_lt xs s.index child e in
+    record { within = omega (arith, lt); there = omega (arith, is, h.there, ap length more, length-append (flat_map Canon (take s.index xs)) (Canon child)); reached = le }
+
+pub first_inside : {A : Type 0} (xs : List A) (i : ℕ) (x : A) → slice_get xs i ≡ Some x → length xs - (i + 1) < length xs - i
+first_inside xs i x e = let lt = get_lt xs i x e in omega (arith, lt)
+
+-- the first step of a path
+pub path_head : (v : Value) (n : ℕ) (path : List Step) (d : Step) → 0 < length path → IsPath v n path →
+    IsStep (head_len v) (inner_values v) n (get_or path 0 d) × IfThere (λ child. IsPath child (n - (get_or path 0 d).before) (drop 1 path)) (slice_get (inner_values v) (get_or path 0 d).index)
+path_head v n [] d some h = absurd (omega (arith, some))
+path_head v n (s ∷ path) d some h = h
+
+-- the window from which all before the step was skipped
+abbrev pub skipped_to : Step → Window → Window
+skipped_to s w = record { skip = w.skip - s.before; filled = w.filled }
+
+-- the bytes from a step on, put to such a window
+resumed : (v : Value) (s : Step) (w : Window) (into rest : List ℕ) (u : Window × List ℕ) → IsStep (head_len v) (inner_values v) w.skip s → flat_map Canon (drop s.index (inner_values v)) ++ tail_bytes v ≡ rest → u ≡ window_after (skipped_to s w) into rest → u ≡ window_after w into (Canon v)
+resumed v s w into rest u h is put =
+    let cut = cut_at v s.index h.within in
+    let size : length cut.prefix ≡ s.before = cut.size ∙ sym h.there in
+    let le : length cut.prefix ≤ w.skip = omega (arith, size, h.reached) in
+    let passed : (skipped_to s w, into) ≡ window_after w into cut.prefix = ap (λ (n : ℕ). beside (w.skip - n) w.filled into) (sym size) ∙ sym (filled_before w into cut.prefix le) in
+    two window_after filled_longer w into cut.prefix rest (skipped_to s w, into) u passed put ∙ ap (window_after w into) (ap (λ (l : List ℕ). cut.prefix ++ l) (sym is) ∙ sym cut.is)
+
+pub resumed_some : (v : Value) (s : Step) (w : Window) (into : List ℕ) (child : Value) (t u : Window × List ℕ) → IsStep (head_len v) (inner_values v) w.skip s → slice_get (inner_values v) s.index ≡ Some child → t ≡ window_after (skipped_to s w) into (Canon child) →
+    u ≡ window_after t.0 t.1 (flat_map Canon (drop (s.index + 1) (inner_values v)) ++ tail_bytes v) → u ≡ window_after w into (Canon v)
+resumed_some v s w into child t u h e first second =
+    let back = flat_map Canon (drop (s.index + 1) (inner_values v)) in
+    let rest : List ℕ = back ++ tail_bytes v in
+    let is : flat_map Canon (drop s.index (inner_values v)) ++ tail_bytes v ≡ Canon child ++ rest = ap (λ (l : List Value). flat_map Canon l ++ tail_bytes v) (drop_get (inner_values v) s.index child e ∙ ap (λ (i : ℕ). child ∷ drop i (inner_values v)) (let one : suc s.index ≡ s.index + 1 = omega arith in one)) ∙ append_assoc (Canon child) back (tail_bytes v) in
+    resumed v s w into (Canon child ++ rest) u h is (two window_after filled_longer (skipped_to s w) into (Canon child) rest t u first second)
+
+pub resumed_none : (v : Value) (s : Step) (w : Window) (into : List ℕ) (u : Window × List ℕ) → IsStep (head_len v) (inner_values v) w.skip s → u ≡ window_after (skipped_to s w) into (flat_map Canon (drop s.index (inner_values v)) ++ tail_bytes v) → u ≡ window_after w into (Canon v)
+resumed_none v s w into u h put = resumed v s w into (flat_map Canon (drop s.index (inner_values v)) ++ tail_bytes v) u h refl put
+
+nothing_below : (child : Value) (n m : ℕ) → IsPath child n (take m [])
+nothing_below child n zero = tt
+nothing_below child n (suc m) = tt
+
+below_none : (child : Value) (n : ℕ) (b : Bool) (steps : List Step) → IsPath child n (take (cond b 0 0) steps)
+below_none child n true steps = tt
+below_none child n false steps = tt
+
+below_some : (v : Value) (n : ℕ) (s : Step) (steps : List Step) (k : ℕ) (t : Step) (child : Value) → IsPath v n (s ∷ take k steps) → IsStep (head_len v) (inner_values v) n t → slice_get (inner_values v) t.index ≡ Some child →
+    (b : Bool) → eqb t.index s.index ≡ b → IsPath child (n - t.before) (take (cond b (suc k - 1) 0) steps)
+below_some v n s steps k t child h is e false not = tt
+below_some v n s steps k t child h is e true same =
+    let index : t.index ≡ s.index = eqb-true t.index s.index same in
+    let before : s.before ≡ t.before = h.0.there ∙ ap (λ (i : ℕ). head_len v + length (flat_map Canon (take i (inner_values v)))) (sym index) ∙ sym is.there in
+    let at : slice_get (inner_values v) s.index ≡ Some child = ap (slice_get (inner_values v)) (sym index) ∙ e in
+    let path : IsPath child (n - s.before) (take k steps) = subst (IfThere (λ c. IsPath c (n - s.before) (take k steps))) at h.1 in
+    let there : IsPath child (n - t.before) (take k steps) = subst (λ (m : ℕ). IsPath child (n - m) (take k steps)) before path in
+    subst (λ (j : ℕ). IsPath child (n - t.before) (take j steps)) (let e : k ≡ suc k - 1 = omega arith in e) there
+
+-- the same steps below, where the step stayed
+pub below_path : (v : Value) (n : ℕ) (steps : List Step) (known : ℕ) (t : Step) (child : Value) → IsPath v n (take known steps) → IsStep (head_len v) (inner_values v) n t → slice_get (inner_values v) t.index ≡ Some child →
+    IsPath child (n - t.before) (take (kept_steps known (first_of (head_len v) (take known steps)) t) (drop 1 steps))
+below_path v n steps zero t child h is e = below_none child (n - t.before) (eqb t.index 0) (drop 1 steps)
+below_path v n [] (suc k) t child h is e = nothing_below child (n - t.before) (kept_steps (suc k) (record { index = 0; before = head_len v }) t)
+below_path v n (s ∷ steps) (suc k) t child h is e = below_some v n s steps k t child h is e (eqb t.index s.index) refl
+
+-- ---- the slice of steps
+
+kept_le : (k : ℕ) (b : Bool) → cond b (k - 1) 0 ≤ k - 1
+kept_le k true = omega arith
+kept_le k false = omega arith
+
+set_len : (steps : List Step) (s : Step) → length (set steps 0 s) ≡ length steps
+set_len [] s = refl
+set_len (a ∷ steps) s = refl
+
+drop_set : (steps : List Step) (s : Step) → drop 1 (set steps 0 s) ≡ drop 1 steps
+drop_set [] s = refl
+drop_set (a ∷ steps) s = refl
+
+take_set : (steps : List Step) (s : Step) → 0 < length steps → take 1 (set steps 0 s) ≡ s ∷ []
+take_set [] s lt = absurd (omega (arith, lt))
+take_set (a ∷ steps) s lt = refl
+
+pub below_len : (steps : List Step) (s : Step) → length (take (length (set steps 0 s) - 1) (drop 1 (set steps 0 s))) ≡ length steps - 1
+below_len steps s = ap length (rest_all (set steps 0 s) 1) ∙ length-drop 1 (set steps 0 s) ∙ ap (λ (n : ℕ). n - 1) (set_len steps s)
+
+pub below_within : (steps : List Step) (known kept : ℕ) (s t : Step) → known ≤ length steps → kept ≡ kept_steps known s t → kept ≤ length (take (length (set steps 0 t) - 1) (drop 1 (set steps 0 t)))
+below_within steps known kept s t le is = let few = kept_le known (eqb t.index s.index) in omega (arith, le, is, few, below_len steps t)
+
+pub below_there : (v : Value) (n : ℕ) (steps : List Step) (known kept : ℕ) (s t : Step) (child : Value) → IsPath v n (take known steps) → s ≡ first_of (head_len v) (take known steps) → IsStep (head_len v) (inner_values v) n t → slice_get (inner_values v) t.index ≡ Some child →
+    kept ≡ kept_steps known s t → IsPath child (n - t.before) (take kept (take (length (set steps 0 t) - 1) (drop 1 (set steps 0 t))))
+below_there v n steps known kept s t child path first is e below =
+    let list : take kept (take (length (set steps 0 t) - 1) (drop 1 (set steps 0 t))) ≡ take (kept_steps known (first_of (head_len v) (take known steps)) t) (drop 1 steps) =
+    ap (take kept) (rest_all (set steps 0 t) 1 ∙ drop_set steps t) ∙ ap (λ (k : ℕ). take k (drop 1 steps)) (below ∙ ap (λ (r : Step). kept_steps known r t) first) in
+    subst (IsPath child (n - t.before)) (sym list) (below_path v n steps known t child path is e)
+
+put_path : (steps : List Step) (s : Step) (ys : List Step) (k r : ℕ) → 0 < length steps → r ≤ length ys → take (1 + r) (put_mid 1 k (set steps 0 s) ys) ≡ s ∷ take r ys
+put_path steps s ys k r some le =
+    let whole = put_mid 1 k (set steps 0 s) ys in
+    let one : 1 ≤ length (set steps 0 s) = omega (arith, some, set_len steps s) in
+    let front : take (1 + length ys) whole ≡ s ∷ ys = take-put_mid 1 k (set steps 0 s) ys (1 + length ys) refl one ∙ ap (λ (l : List Step). l ++ ys) (take_set steps s some) in
+    let next : 1 + r ≡ suc r = omega arith in
+    sym (take-take (1 + r) (1 + length ys) whole (omega (arith, le))) ∙ ap (take (1 + r)) front ∙ ap (λ (n : ℕ). take n (s ∷ ys)) next
+
+-- a path through a value inside
+pub path_through : (v : Value) (n : ℕ) (steps : List Step) (t : Step) (child : Value) (ys : List Step) (k r : ℕ) → 0 < length steps → r ≤ length ys → IsStep (head_len v) (inner_values v) n t → slice_get (inner_values v) t.index ≡ Some child → IsPath child (n - t.before) (take r ys) →
+    IsPath v n (take (1 + r) (put_mid 1 k (set steps 0 t) ys))
+path_through v n steps t child ys k r some le is e path =
+    let below : IfThere (λ c. IsPath c (n - t.before) (take r ys)) (slice_get (inner_values v) t.index) = subst (IfThere (λ c. IsPath c (n - t.before) (take r ys))) (sym e) path in
+    let all : IsPath v n (t ∷ take r ys) = (is, below) in
+    subst (IsPath v n) (sym (put_path steps t ys k r some le)) all
+
+-- a path past the last value inside
+pub path_past : (v : Value) (n : ℕ) (steps : List Step) (t : Step) → 0 < length steps → IsStep (head_len v) (inner_values v) n t → slice_get (inner_values v) t.index ≡ None → IsPath v n (take 1 (set steps 0 t))
+path_past v n steps t some is e =
+    let below : IfThere (λ c. IsPath c (n - t.before) []) (slice_get (inner_values v) t.index) = subst (IfThere (λ c. IsPath c (n - t.before) [])) (sym e) tt in
+    let all : IsPath v n (t ∷ []) = (is, below) in
+    subst (IsPath v n) (sym (take_set steps t some)) all

@@ -1,0 +1,6 @@
+use Rattle.ig_encode.proofs.OutputLemmas.{each_full}
+use Rattle.ig_encode.proofs.leaves.put_parts.Goals as goal
+
+pub returns-then-is_full : goal.returns-then-is_full
+returns-then-is_full g c =
+    each_full g.S.Output.after g.met.S.Output.longer g.T.Spell.bytes c.args.out.now c.args.into.now c.args.parts.now c.loop-part.part-index (c.loop-part.out, c.loop-part.into) c.loop-part.invariant (c.is_full.ensures c.if-is_full.true)

@@ -1,0 +1,6 @@
+use Rattle.std.proofs.Common.{◌≡◌, take}
+use Rattle.std.specs.List.{flat_map}
+use Rattle.ig_encode.proofs.leaves.put_parts.Given as goal
+
+abbrev pub invariant-loop-part : goal.invariant-loop-part
+invariant-loop-part g l = (l.out, l.into) ≡ g.S.Output.after l.initial.out l.initial.into (flat_map g.T.Spell.bytes (take l.part-index l.parts))

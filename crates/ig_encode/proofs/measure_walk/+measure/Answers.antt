@@ -1,0 +1,65 @@
+use Rattle.std.proofs.Common.{◌≡◌, ℕ, ◌+◌, List, ◌++◌, length, map, take, refl, sym, ap, ◌∙◌}
+use Rattle.std.specs.List.{flat_map}
+use Rattle.ig_value.specs.declared.value.Value.{Value}
+use Rattle.ig_value.specs.declared.value.Value.TheVariants as value
+use Rattle.ig_value.specs.declared.object.Record.{Record}
+use Rattle.ig_value.specs.Canon.{Canon}
+use Rattle.ig_encode.specs.ListBytes.{pair_bytes}
+use Rattle.ig_encode.specs.MeasureOutput.{measure_after, fresh_of}
+use Rattle.ig_encode.specs.Spans.{span_of}
+use Rattle.ig_encode.proofs.CanonLemmas.{Canon_objects, Canon_enums, Canon_collection, Canon_map, Canon_object, typed_head, kinded_head}
+use Rattle.ig_encode.proofs.MeasureLemmas.{measure_none, measured_both, measured_more}
+use Rattle.ig_encode.proofs.SpanLemmas.{span_more, span_none, measure_two}
+use Rattle.ig_encode.proofs.measure_walk.+measure.Goals as goal
+
+pub measure_value-returns-in-Objects : goal.measure_value-returns-in-Objects
+measure_value-returns-in-Objects t c =
+    let xs = c.as_slice-items.result.now in
+    measured_both c.args.out.now c.put_typed.new.out c.measure_values.new.out _ c.put_typed.new.into (typed_head 23 c.in-Objects.type_id (length xs)) (flat_map Canon xs) c.put_typed.ensures c.measure_values.ensures
+    ∙ ap (measure_after c.args.out.now) (sym (Canon_objects c.args.value.now c.in-Objects.type_id xs (c.in-Objects.is ∙ ap (value.Objects c.in-Objects.type_id) (sym c.as_slice-items.ensures))))
+
+pub measure_value-returns-in-Collection : goal.measure_value-returns-in-Collection
+measure_value-returns-in-Collection t c =
+    let xs = c.as_slice-items-in-Collection.result.now in
+    measured_both c.args.out.now c.put_kinded.new.out c.measure_values-in-Collection.new.out _ c.put_kinded.new.into (kinded_head 24 c.in-Collection.kind (length xs)) (flat_map Canon xs) c.put_kinded.ensures c.measure_values-in-Collection.ensures
+    ∙ ap (measure_after c.args.out.now) (sym (Canon_collection c.args.value.now c.in-Collection.kind xs (c.in-Collection.is ∙ ap (value.Collection c.in-Collection.kind) (sym c.as_slice-items-in-Collection.ensures))))
+
+pub measure_value-returns-in-Map : goal.measure_value-returns-in-Map
+measure_value-returns-in-Map t c =
+    let ps = c.as_slice-pairs.result.now in
+    measured_both c.args.out.now c.put_kinded-in-Map.new.out c.measure_pairs.new.out _ c.put_kinded-in-Map.new.into (kinded_head 25 c.in-Map.kind (length ps)) (flat_map pair_bytes ps) c.put_kinded-in-Map.ensures c.measure_pairs.ensures
+    ∙ ap (measure_after c.args.out.now) (sym (Canon_map c.args.value.now c.in-Map.kind ps (c.in-Map.is ∙ ap (value.Map c.in-Map.kind) (sym c.as_slice-pairs.ensures))))
+
+pub measure_value-returns-in-Enums : goal.measure_value-returns-in-Enums
+measure_value-returns-in-Enums t c =
+    let xs = c.as_slice-items-in-Enums.result.now in
+    measured_both c.args.out.now c.put_typed-in-Enums.new.out c.measure_values-in-Enums.new.out _ c.put_typed-in-Enums.new.into (typed_head 29 c.in-Enums.type_id (length xs)) (flat_map Canon xs) c.put_typed-in-Enums.ensures c.measure_values-in-Enums.ensures
+    ∙ ap (measure_after c.args.out.now) (sym (Canon_enums c.args.value.now c.in-Enums.type_id xs (c.in-Enums.is ∙ ap (value.Enums c.in-Enums.type_id) (sym c.as_slice-items-in-Enums.ensures))))
+
+pub measure_value-returns-in-Object : goal.measure_value-returns-in-Object
+measure_value-returns-in-Object t c =
+    let o = c.get-object.result.now in
+    c.put_measured.ensures ∙ ap (measure_after c.args.out.now) (sym (Canon_object c.args.value.now o (c.in-Object.is ∙ ap value.Object (sym c.get-object.ensures))))
+
+pub measure_values-loop-value-init : goal.measure_values-loop-value-init
+measure_values-loop-value-init t c = measure_none c.args.out.now
+
+pub measure_pairs-loop-key-init : goal.measure_pairs-loop-key-init
+measure_pairs-loop-key-init t c = measure_none c.args.out.now
+
+pub measure_values-loop-value-preserved : goal.measure_values-loop-value-preserved
+measure_values-loop-value-preserved t c =
+    measured_more Canon c.args.out.now c.args.values.now c.loop-value.value-index c.value-item.result c.loop-value.out c.measure_value.new.out c.loop-value-test.true c.value-item.is c.loop-value.invariant c.measure_value.ensures
+
+pub measure_pairs-loop-key-preserved : goal.measure_pairs-loop-key-preserved
+measure_pairs-loop-key-preserved t c =
+    measured_more pair_bytes c.args.out.now c.args.pairs.now c.loop-key.key-index c.loop-key-item.result c.loop-key.out c.measure_value-in-loop-key.new.out c.loop-key-test.true c.loop-key-item.is c.loop-key.invariant
+    (c.measure_value-in-loop-key.ensures ∙ ap (λ m. measure_after m (Canon c.loop-key-item.result.1)) c.measure_value.ensures ∙ sym (measure_two c.loop-key.out (Canon c.loop-key-item.result.0) (Canon c.loop-key-item.result.1)))
+
+pub measure_span-loop-index-init : goal.measure_span-loop-index-init
+measure_span-loop-index-init t c = span_none (fresh_of c.args.like.now) c.args.shape.now c.fresh.result c.fresh-2.result c.fresh-3.result c.fresh-4.result c.fresh.ensures c.fresh-2.ensures c.fresh-3.ensures c.fresh-4.ensures
+
+pub measure_span-loop-index-preserved : goal.measure_span-loop-index-preserved
+measure_span-loop-index-preserved t c =
+    span_more (fresh_of c.args.like.now) c.args.shape.now c.args.fields.now c.loop-index.index c.index-fields-index.result c.loop-index.span c.note_entry.new.span c.measure_value.new.out c.loop-index-test.true c.index-fields-index.is refl c.loop-index.invariant
+    c.note_entry.ensures c.measure_value.ensures

@@ -1,0 +1,16 @@
+use Rattle.std.proofs.Common.{◌≡◌, take}
+use Rattle.std.specs.List.{flat_map}
+use Rattle.ig_value.specs.Canon.{Canon}
+use Rattle.ig_encode.specs.ListBytes.{pair_bytes}
+use Rattle.ig_encode.specs.MeasureOutput.{measure_after, fresh_of}
+use Rattle.ig_encode.specs.Spans.{span_of}
+use Rattle.ig_encode.proofs.measure_walk.+measure.Given as goal
+
+abbrev pub invariant-measure_values-loop-value : goal.invariant-measure_values-loop-value
+invariant-measure_values-loop-value l = l.out ≡ measure_after l.initial.out (flat_map Canon (take l.value-index l.values))
+
+abbrev pub invariant-measure_pairs-loop-key : goal.invariant-measure_pairs-loop-key
+invariant-measure_pairs-loop-key l = l.out ≡ measure_after l.initial.out (flat_map pair_bytes (take l.key-index l.pairs))
+
+abbrev pub invariant-measure_span-loop-index : goal.invariant-measure_span-loop-index
+invariant-measure_span-loop-index l = l.span ≡ span_of (fresh_of l.like) l.shape (take l.index l.fields)

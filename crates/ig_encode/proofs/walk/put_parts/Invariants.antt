@@ -1,6 +1,0 @@
-use Rattle.std.proofs.Common.{◌≡◌, take}
-use Rattle.std.specs.List.{flat_map}
-use Rattle.ig_encode.proofs.walk.put_parts.Given as goal
-
-abbrev pub invariant-loop-part : goal.invariant-loop-part
-invariant-loop-part g l = (l.out, l.into) ≡ g.S.Output.after l.initial.out l.initial.into (flat_map g.T.Spell.bytes (take l.part-index l.parts))
