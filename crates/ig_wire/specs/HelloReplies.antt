@@ -1,0 +1,83 @@
+-- The reply to a hello.
+use Rattle.std.specs.Prelude.{◌≡◌, ◌≢◌, ℕ, zero, suc, ◌<◌, ◌⊎◌, ◌^◌, ℤ, Bool, true, false, List, [], ◌∷◌, ◌++◌, length, Option, None, Some, Result, Ok, Err, ◌==◌, if◌then◌else◌, FitsSigned}
+use Rattle.std.specs.Int.{w16, w32}
+use Rattle.ig_base.specs.declared.NodeId.{NodeId}
+use Rattle.ig_base.specs.Numbers.{LE}
+use Rattle.ig_value.specs.declared.Code.TheVariants as code
+use Rattle.ig_value.specs.Table.{byte_of}
+use Rattle.ig_value.specs.Canon.{uuid_bytes}
+use Rattle.ig_wire.specs.Versions.{version_bytes, IsVersion, has_flags}
+use Rattle.ig_wire.specs.Fields.{string, IsText, StopsNode, StopsString, StopsByte, IsShort, IsLeftOver, StopsAfter, StopsThen, Field, ◌>>=◌, number_of, string_of, node_of, whole}
+use Rattle.ig_wire.specs.declared.version.Version.{Version}
+use Rattle.ig_wire.specs.declared.hello_reply.HelloReply.{HelloReply}
+use Rattle.ig_wire.specs.declared.hello_reply.HelloReply.TheVariants.{Accepted, Refused}
+
+-- ---- which bytes are a reply to a hello
+
+-- the data object of a UUID
+abbrev pub node_bytes : Option NodeId → List ℕ
+node_bytes None = []
+node_bytes (Some node) = byte_of code.Uuid ∷ uuid_bytes node
+
+abbrev pub code_bytes : Option ℤ → List ℕ
+code_bytes None = []
+code_bytes (Some n) = LE w32 n
+
+-- byte 1 and the node's identifier, or byte 0, the highest version, the text, and maybe a code
+abbrev pub hello_reply_bytes : HelloReply → List ℕ
+hello_reply_bytes (Accepted node) = 1 ∷ node_bytes node
+hello_reply_bytes (Refused v text n) = 0 ∷ version_bytes v ++ string text ++ code_bytes n
+
+abbrev pub IsNode : NodeId → Type 0
+IsNode node = (node.most < 2 ^ 64) × (node.least < 2 ^ 64)
+
+-- the identifier is told from 1.4.0 on
+abbrev pub TellsNode : Version → Option NodeId → Type 0
+TellsNode v None = has_flags v ≡ false
+TellsNode v (Some node) = (has_flags v ≡ true) × IsNode node
+
+abbrev pub IsCode : Option ℤ → Type 0
+IsCode None = Unit {0}
+IsCode (Some n) = FitsSigned w32 n
+
+-- the reply is one of this version
+abbrev pub IsHelloReply : Version → HelloReply → Type 0
+IsHelloReply v (Accepted node) = TellsNode v node
+IsHelloReply v (Refused highest text n) = IsVersion highest × IsText text × IsCode n
+
+-- ---- reading it from left to right
+
+abbrev pub version_of : List ℕ → Field Version
+version_of s = do
+  major ← number_of w16 s
+  minor ← number_of w16 major.1
+  patch ← number_of w16 minor.1
+  Ok (record { major = major.0; minor = minor.0; patch = patch.0 }, patch.1)
+
+-- a code, where bytes are left
+abbrev pub code_of : List ℕ → Field (Option ℤ)
+code_of [] = Ok (None, [])
+code_of (b ∷ s) = number_of w32 (b ∷ s) >>= λ n. Ok (Some n.0, n.1)
+
+abbrev pub refusal_of : List ℕ → Field HelloReply
+refusal_of s = do
+  version ← version_of s
+  text ← string_of version.1
+  n ← code_of text.1
+  Ok (Refused version.0 text.0 n.0, n.1)
+
+-- a first byte: 0 refuses the hello, and 1 accepts it
+abbrev pub verdict_of : List ℕ → Field Bool
+verdict_of [] = Err 0
+verdict_of (b ∷ s) = if b == 0 then Ok (false, s) else (if b == 1 then Ok (true, s) else Err (suc (length s)))
+
+abbrev pub acceptance_of : Bool → List ℕ → Field HelloReply
+acceptance_of false s = Ok (Accepted None, s)
+acceptance_of true s = node_of s >>= λ node. Ok (Accepted (Some node.0), node.1)
+
+abbrev pub reply_after : Version → Bool → List ℕ → Field HelloReply
+reply_after v false s = refusal_of s
+reply_after v true s = acceptance_of (has_flags v) s
+
+abbrev pub hello_reply_of : Version → List ℕ → Field HelloReply
+hello_reply_of v s = verdict_of s >>= λ yes. reply_after v yes.0 yes.1

@@ -1,0 +1,11 @@
+pub mod Versions
+pub mod Fields
+pub mod FieldAnswers
+pub mod TextAnswers
+pub mod HelloFaults
+pub mod Greets
+pub mod HelloReplies
+pub mod Heads
+pub mod ReadAnswers
+pub mod HeadAnswers
+pub mod Profiles

@@ -1,0 +1,28 @@
+//! The words that both ends share.
+#![tactic(auto)]
+
+mod ask;
+mod fields;
+mod greeting;
+mod head;
+mod head_calls;
+mod hello;
+mod hello_reply;
+mod hello_reply_calls;
+mod owned;
+mod read_error;
+mod stop;
+mod text_refusal;
+mod text_at;
+mod unread;
+mod version;
+
+pub use ask::{ASK_HEAD, AskFault, Profile, read_ask};
+pub use greeting::{HELLO, LEAST_HELLO, THIN_CLIENT, read_hello};
+pub use head::{Fault, ReplyHead};
+pub use head_calls::{ERROR, TOPOLOGY, read_head};
+pub use hello::{Hello, HelloFault, Login};
+pub use hello_reply::HelloReply;
+pub use hello_reply_calls::{LEAST_HELLO_REPLY, read_hello_reply};
+pub use unread::{ReadFault, Unread};
+pub use version::Version;
