@@ -1,15 +1,17 @@
 //! Building an object from its fields.
 
-ghost use Rattle.std.specs.Prelude.{◌≡◌, ◌<◌, ◌^◌, length, MatchResult, IsNone, IfSome, IsTrue, IsFalse};
+ghost use Rattle.std.specs.Prelude.{◌≡◌, ◌<◌, ◌^◌, length, map, MatchResult, IfOk, IsNone, IfSome, IsTrue, IsFalse};
 ghost use Rattle.std.specs.List.{AllByRecursion};
 ghost use Rattle.ig_value.specs.Limits.{Fits, Depth};
+ghost use Rattle.ig_value.specs.Part.{i32};
+ghost use Rattle.ig_value.specs.Spells.{IsInRange};
 ghost use Rattle.ig_value.specs.Build.{IsBuildable, IsBuilt, IsRefused, AreShallow, object_of};
 ghost use Rattle.ig_value.specs.declared.build.BuildFault.TheVariants as build;
 
 use crate::object::{Record, Shape};
 use crate::value::{DEEPEST, Object, Value};
-use ig_base::Items;
-use std::alloc::{AllocError, AllocFailed, Global};
+use ig_base::{Items, NoMemory};
+use std::alloc::Global;
 use thiserror::Error;
 
 /// Why an object can't be built.
@@ -25,18 +27,10 @@ pub enum BuildFault {
     NoMemory,
 }
 
-impl From<AllocError> for BuildFault {
+impl From<NoMemory> for BuildFault {
     ghost from_gives = { λ _ e. e ≡ build.NoMemory };
 
-    fn from(_error: AllocError) -> BuildFault {
-        BuildFault::NoMemory
-    }
-}
-
-impl<T: Drop> From<AllocFailed<T>> for BuildFault {
-    ghost from_gives = { λ _ e. e ≡ build.NoMemory };
-
-    fn from(_error: AllocFailed<T>) -> BuildFault {
+    fn from(_: NoMemory) -> BuildFault {
         BuildFault::NoMemory
     }
 }
@@ -90,21 +84,41 @@ fn assemble(
     type_id: i32,
     fields: Vec<(i32, Value)>,
 ) -> Result<Object, BuildFault>
-    ensures { MatchResult result (λ o. o ≡ object_of bits type_id fields.items)
+    ensures is { MatchResult result (λ o. o ≡ object_of bits type_id fields.items)
         (λ fault. fault ≡ build.NoMemory) }
+    ensures in_range { IfOk result (λ o. AllByRecursion (IsInRange i32) (map (λ f. f.0) fields.items)) }
 {
-    let mut ids = Vec::with_capacity(alloc, fields.len())?;
-    let mut values = Vec::with_capacity(alloc, fields.len())?;
-    for (id, value) in fields {
-        ids.push(id)?;
-        values.push(value)?;
-    }
+    let ids = ids_of(alloc, &fields)?;
+    let values = values_of(alloc, fields)?;
     Ok(Record {
         bits,
         type_id,
-        shape: Shape::Named(Items::new(ids)),
-        fields: Items::new(values),
+        shape: Shape::Named(ids),
+        fields: values,
     })
+}
+
+/// The identifiers of these fields.
+fn ids_of(alloc: Global, fields: &[(i32, Value)]) -> Result<Items<i32>, NoMemory>
+    ensures are { IfOk result (λ ids. ids ≡ map (λ f. f.0) fields.now) }
+    ensures in_range { IfOk result (AllByRecursion (IsInRange i32)) }
+{
+    let mut ids = Vec::with_capacity(alloc, fields.len())?;
+    for field in fields {
+        ids.push(field.0)?;
+    }
+    Ok(Items::new(ids))
+}
+
+/// The values of these fields.
+fn values_of(alloc: Global, fields: Vec<(i32, Value)>) -> Result<Items<Value>, NoMemory>
+    ensures { IfOk result (λ values. values ≡ map (λ f. f.1) fields.items) }
+{
+    let mut values = Vec::with_capacity(alloc, fields.len())?;
+    for (_, value) in fields {
+        values.push(value)?;
+    }
+    Ok(Items::new(values))
 }
 
 /// Whether each field may stand in an object.
