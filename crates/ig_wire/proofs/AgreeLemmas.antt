@@ -164,6 +164,15 @@ same_read P Q W R forth back p = record {
   halted = p.halted;
 }
 
+pub same_stop : {A : Type 0} (P : List ℕ → A → Type 0) (W V : List ℕ → ℕ → Type 0) (R : List ℕ → Field A) →
+    ((s : List ℕ) (at : ℕ) → W s at → V s at) → ((s : List ℕ) (at : ℕ) → V s at → W s at) → IsRead P W R → IsRead P V R
+same_stop P W V R forth back p = record {
+  takes = p.takes;
+  again = p.again;
+  halts = λ s left bytes e. let h = p.halts s left bytes e in record { at = h.at; there = h.there; wrong = forth s h.at h.wrong };
+  halted = λ s at w. p.halted s at (back s at w);
+}
+
 pub by_reader : {A : Type 0} (P : List ℕ → A → Type 0) (W : List ℕ → ℕ → Type 0) (R T : List ℕ → Field A) → ((s : List ℕ) → R s ≡ T s) → IsRead P W R → IsRead P W T
 by_reader P W R T same p = record {
   takes = λ s x rest bytes e. p.takes s x rest bytes (same s ∙ e);

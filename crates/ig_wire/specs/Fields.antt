@@ -1,9 +1,9 @@
 -- The fields of messages: which bytes spell them, where bytes stop being them, and reading them from
 -- left to right.
-use Rattle.std.specs.Prelude.{◌≡◌, ◌≢◌, ℕ, suc, ◌+◌, ◌-◌, ◌<◌, ◌^◌, ◌⊎◌, ℤ, Bool, List, [], ◌∷◌, ◌++◌, length, drop, Option, None, Some, Result, Ok, Err, ◌==◌, if◌then◌else◌}
+use Rattle.std.specs.Prelude.{◌≡◌, ◌≢◌, ℕ, suc, ◌+◌, ◌-◌, ◌<◌, ◌^◌, ◌⊎◌, ℤ, Bool, List, [], ◌∷◌, ◌++◌, length, drop, Option, None, Some, Result, Ok, Err, ◌==◌, if◌then◌else◌, FitsSigned}
 use Rattle.std.specs.Int.{Width, w32, byte_len}
 use Rattle.std.specs.Str.{IsUtf8}
-use Rattle.ig_base.specs.Numbers.{number_at, AreBytes}
+use Rattle.ig_base.specs.Numbers.{LE, number_at, AreBytes}
 use Rattle.ig_base.specs.declared.NodeId.{NodeId}
 use Rattle.ig_value.specs.declared.Cause.{Cause}
 use Rattle.ig_value.specs.declared.Code.{Code}
@@ -12,7 +12,7 @@ use Rattle.ig_value.specs.Table.{byte_of}
 use Rattle.ig_value.specs.Part.{u64}
 use Rattle.ig_value.specs.Spells.{IsScalar}
 use Rattle.ig_value.specs.Stops.{StopsScalar, StopsBoth, StopsTextRun, StopsCounted, StopsCoded, StopsOptional}
-use Rattle.ig_value.specs.Canon.{counted_bytes, optional_bytes}
+use Rattle.ig_value.specs.Canon.{counted_bytes, optional_bytes, uuid_bytes}
 use Rattle.ig_value.specs.Reading.{Read, counted_at, text_run_at, optional_at, uuid_at}
 use Rattle.ig_wire.specs.TextAnswers.{text_reading}
 
@@ -35,6 +35,26 @@ pub record IsText (text : List ℕ) : Type 0 where
 abbrev pub IsNullableText : Option (List ℕ) → Type 0
 IsNullableText None = Unit {0}
 IsNullableText (Some text) = IsText text
+
+-- the identifier of a node
+abbrev pub IsNode : NodeId → Type 0
+IsNode node = (node.most < 2 ^ 64) × (node.least < 2 ^ 64)
+
+-- the bytes are a signed number
+abbrev pub IsNumber : Width → List ℕ → ℤ → Type 0
+IsNumber w s n = FitsSigned w n × (s ≡ LE w n)
+
+-- the bytes are a String
+abbrev pub IsString : List ℕ → List ℕ → Type 0
+IsString s text = IsText text × (s ≡ string text)
+
+-- the bytes are a String or a null
+abbrev pub IsNullableString : List ℕ → Option (List ℕ) → Type 0
+IsNullableString s text = IsNullableText text × (s ≡ nullable_string text)
+
+-- the bytes are the data object of a UUID
+abbrev pub IsNodeObject : List ℕ → NodeId → Type 0
+IsNodeObject s node = IsNode node × (s ≡ byte_of code.Uuid ∷ uuid_bytes node)
 
 -- ---- where bytes stop being a field: at the offset where its first wrong item begins
 

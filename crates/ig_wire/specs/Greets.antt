@@ -3,7 +3,7 @@ use Rattle.std.specs.Prelude.{◌≡◌, ◌≢◌, ℕ, suc, ◌+◌, ◌-◌, 
 use Rattle.std.specs.Int.{w16}
 use Rattle.ig_base.specs.Numbers.{number_at}
 use Rattle.ig_wire.specs.Versions.{version_bytes, IsVersion, is_accepted, has_login}
-use Rattle.ig_wire.specs.Fields.{string, nullable_string, IsText, IsNullableText, StopsNullableString, IsLeftOver, StopsThen, Field, ◌>>=◌, nullable_string_of, whole, frame_place}
+use Rattle.ig_wire.specs.Fields.{string, nullable_string, IsNullableText, IsNullableString, StopsNullableString, IsLeftOver, StopsThen, Field, ◌>>=◌, nullable_string_of, whole, frame_place}
 use Rattle.ig_wire.specs.declared.version.Version.{Version}
 use Rattle.ig_wire.specs.declared.hello.Hello.{Hello}
 use Rattle.ig_wire.specs.declared.hello.Login.{Login}
@@ -33,10 +33,6 @@ hello_bytes v login = hello_start v thin_client ++ login_bytes login
 abbrev pub MayLogin : Version → Option Login → Type 0
 MayLogin v None = Unit {0}
 MayLogin v (Some login) = has_login v ≡ true
-
--- the bytes are a String or a null
-abbrev pub IsNullableString : List ℕ → Option (List ℕ) → Type 0
-IsNullableString s text = IsNullableText text × (s ≡ nullable_string text)
 
 -- what follows the client code: nothing, or from 1.1.0 on two Strings or nulls, which are a login
 abbrev pub IsTail : Version → List ℕ → Bool → Type 0

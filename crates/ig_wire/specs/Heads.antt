@@ -5,7 +5,7 @@ use Rattle.std.specs.Int.{w16, w32, w64}
 use Rattle.ig_base.specs.Numbers.{LE}
 use Rattle.ig_base.specs.declared.Topology.{Topology}
 use Rattle.ig_wire.specs.Versions.{has_flags}
-use Rattle.ig_wire.specs.Fields.{string, IsText, Field, ◌>>=◌, number_of, string_of}
+use Rattle.ig_wire.specs.Fields.{string, IsText, IsNumber, IsShort, StopsString, StopsThen, Field, ◌>>=◌, number_of, string_of}
 use Rattle.ig_wire.specs.declared.version.Version.{Version}
 use Rattle.ig_wire.specs.declared.head.Fault.{Fault}
 use Rattle.ig_wire.specs.declared.head.ReplyHead.{ReplyHead}
@@ -64,6 +64,52 @@ pub record IsHead (v : Version) (head : ReplyHead) : Type 0 where
   pub told : IsTopology head.told
   pub fault : IsFault head.fault
   pub may : MayTell (has_flags v) head.told head.fault
+
+-- ---- where bytes stop being one
+
+-- the bytes are the flags for these parts
+abbrev pub IsFlags : List ℕ → Bool × Bool → Type 0
+IsFlags s parts = s ≡ LE w16 (flag_number parts.0 parts.1)
+
+-- other flags are set
+pub record IsOtherFlags (s : List ℕ) (at : ℕ) : Type 0 where
+  pub flags : ℤ
+  pub rest : List ℕ
+  pub fits : FitsSigned w16 flags
+  pub whole : s ≡ LE w16 flags ++ rest
+  pub other : (told fault : Bool) → flags ≢ flag_number told fault
+  pub here : at ≡ 0
+
+abbrev pub StopsFlags : List ℕ → ℕ → Type 0
+StopsFlags s at = IsShort 2 s at ⊎ IsOtherFlags s at
+
+-- the bytes are the topology, where it is told
+abbrev pub IsTopologyField : Bool → List ℕ → Option Topology → Type 0
+IsTopologyField is_told s t = (is_some t ≡ is_told) × IsTopology t × (s ≡ topology_bytes t)
+
+abbrev pub StopsTopology : Bool → List ℕ → ℕ → Type 0
+StopsTopology false s at = ⊥
+StopsTopology true s at = StopsThen (IsNumber w64) (IsShort 8) (λ version. IsShort 4) s at
+
+-- the bytes are the fault, where one is told
+abbrev pub IsFaultField : Bool → List ℕ → Option Fault → Type 0
+IsFaultField is_told s fault = (is_some fault ≡ is_told) × IsFault fault × (s ≡ fault_bytes fault)
+
+abbrev pub StopsFault : Bool → List ℕ → ℕ → Type 0
+StopsFault false s at = ⊥
+StopsFault true s at = StopsThen (IsNumber w32) (IsShort 4) (λ status. StopsString) s at
+
+-- below 1.4.0 a text follows a status that isn't 0
+abbrev pub StopsStatus : ℤ → List ℕ → ℕ → Type 0
+StopsStatus status s at = (status ≢ pos 0) × StopsString s at
+
+abbrev pub StopsTold : Bool → List ℕ → ℕ → Type 0
+StopsTold true s at = StopsThen IsFlags StopsFlags (λ parts. StopsThen (IsTopologyField parts.0) (StopsTopology parts.0) (λ t. StopsFault parts.1)) s at
+StopsTold false s at = StopsThen (IsNumber w32) (IsShort 4) StopsStatus s at
+
+-- the bytes begin with no head
+abbrev pub StopsHead : Version → List ℕ → ℕ → Type 0
+StopsHead v = StopsThen (IsNumber w64) (IsShort 8) (λ id. StopsTold (has_flags v))
 
 -- ---- reading it from left to right
 

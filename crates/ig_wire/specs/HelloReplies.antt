@@ -7,7 +7,7 @@ use Rattle.ig_value.specs.declared.Code.TheVariants as code
 use Rattle.ig_value.specs.Table.{byte_of}
 use Rattle.ig_value.specs.Canon.{uuid_bytes}
 use Rattle.ig_wire.specs.Versions.{version_bytes, IsVersion, has_flags}
-use Rattle.ig_wire.specs.Fields.{string, IsText, StopsNode, StopsString, StopsByte, IsShort, IsLeftOver, StopsAfter, StopsThen, Field, ◌>>=◌, number_of, string_of, node_of, whole}
+use Rattle.ig_wire.specs.Fields.{string, IsText, IsNode, IsString, IsNumber, IsNodeObject, StopsNode, StopsString, StopsByte, IsShort, IsLeftOver, StopsAfter, StopsThen, Field, ◌>>=◌, number_of, string_of, node_of, whole}
 use Rattle.ig_wire.specs.declared.version.Version.{Version}
 use Rattle.ig_wire.specs.declared.hello_reply.HelloReply.{HelloReply}
 use Rattle.ig_wire.specs.declared.hello_reply.HelloReply.TheVariants.{Accepted, Refused}
@@ -28,9 +28,6 @@ abbrev pub hello_reply_bytes : HelloReply → List ℕ
 hello_reply_bytes (Accepted node) = 1 ∷ node_bytes node
 hello_reply_bytes (Refused v text n) = 0 ∷ version_bytes v ++ string text ++ code_bytes n
 
-abbrev pub IsNode : NodeId → Type 0
-IsNode node = (node.most < 2 ^ 64) × (node.least < 2 ^ 64)
-
 -- the identifier is told from 1.4.0 on
 abbrev pub TellsNode : Version → Option NodeId → Type 0
 TellsNode v None = has_flags v ≡ false
@@ -44,6 +41,48 @@ IsCode (Some n) = FitsSigned w32 n
 abbrev pub IsHelloReply : Version → HelloReply → Type 0
 IsHelloReply v (Accepted node) = TellsNode v node
 IsHelloReply v (Refused highest text n) = IsVersion highest × IsText text × IsCode n
+
+-- ---- where bytes stop being one
+
+-- a first byte
+abbrev pub IsVerdict : List ℕ → Bool → Type 0
+IsVerdict s false = s ≡ 0 ∷ []
+IsVerdict s true = s ≡ 1 ∷ []
+
+-- the first byte is neither 0 nor 1, or isn't there
+abbrev pub StopsVerdict : List ℕ → ℕ → Type 0
+StopsVerdict = StopsByte (λ b. b < 2)
+
+-- the bytes are a version
+abbrev pub IsVersionField : List ℕ → Version → Type 0
+IsVersionField s v = IsVersion v × (s ≡ version_bytes v)
+
+-- one of the three numbers isn't whole
+abbrev pub StopsVersion : List ℕ → ℕ → Type 0
+StopsVersion = StopsThen (IsNumber w16) (IsShort 2) (λ major. StopsThen (IsNumber w16) (IsShort 2) (λ minor. IsShort 2))
+
+-- one to three bytes are left
+abbrev pub StopsCode : List ℕ → ℕ → Type 0
+StopsCode s at = (s ≢ []) × IsShort 4 s at
+
+abbrev pub StopsRefusal : List ℕ → ℕ → Type 0
+StopsRefusal = StopsThen IsVersionField StopsVersion (λ version. StopsThen IsString StopsString (λ text. StopsCode))
+
+abbrev pub StopsAcceptance : Bool → List ℕ → ℕ → Type 0
+StopsAcceptance false s at = ⊥
+StopsAcceptance true s at = StopsNode s at
+
+abbrev pub StopsVerdictGiven : Version → Bool → List ℕ → ℕ → Type 0
+StopsVerdictGiven v false s at = StopsRefusal s at
+StopsVerdictGiven v true s at = StopsAcceptance (has_flags v) s at
+
+-- the bytes begin with no reply to a hello
+abbrev pub StopsHelloReply : Version → List ℕ → ℕ → Type 0
+StopsHelloReply v = StopsThen IsVerdict StopsVerdict (StopsVerdictGiven v)
+
+-- the bytes are no such reply as a whole: they begin with none, or bytes follow it
+abbrev pub IsNoHelloReply : Version → List ℕ → ℕ → Type 0
+IsNoHelloReply v = StopsThen (λ s reply. IsHelloReply v reply × (s ≡ hello_reply_bytes reply)) (StopsHelloReply v) (λ reply. IsLeftOver)
 
 -- ---- reading it from left to right
 

@@ -10,6 +10,7 @@ mod hello;
 mod hello_reply;
 mod hello_reply_calls;
 mod owned;
+mod put;
 mod read_error;
 mod stop;
 mod text_refusal;
