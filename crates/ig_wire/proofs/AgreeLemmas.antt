@@ -1,6 +1,6 @@
 -- A reader of fields, the bytes that it reads, and where they stop: how each way of putting fields
 -- together keeps their agreement.
-use Rattle.std.proofs.Common.{◌≡◌, ℕ, zero, suc, ◌+◌, List, [], ◌∷◌, ◌++◌, length, take, drop, Result, Ok, Err, refl, sym, ap, subst, ◌∙◌, append_assoc, append-nil, arith, inl, inr, length-append, ◌⊎◌}
+use Rattle.std.proofs.Common.{◌≡◌, ℕ, zero, suc, ◌+◌, List, [], ◌∷◌, ◌++◌, length, take, drop, ◌≢◌, Result, Ok, Err, refl, sym, ap, subst, ◌∙◌, append_assoc, append-nil, arith, inl, inr, length-append, ◌⊎◌}
 use Rattle.ig_base.specs.Numbers.{AreBytes}
 use Rattle.ig_value.specs.declared.Cause.{Cause}
 use Rattle.ig_value.specs.Reading.{Fault, Read}
@@ -190,4 +190,114 @@ nothing_read {A} x = record {
   again = λ s y rest h. rw (h.0, h.1) refl;
   halts = λ s left bytes e. absurd (let no : done (x, s) ≡ lost (A × List ℕ) left = e in cc);
   halted = λ s at w. absurd w;
+}
+
+-- ---- a message, which has nothing after it
+
+-- A message is read as it is spelled, and spelled as it is read; so with what stops.
+pub record IsMessage {A : Type 0} (P : List ℕ → A → Type 0) (W : List ℕ → ℕ → Type 0) (R : List ℕ → Result A ℕ) : Type 0 where
+  pub right : (s : List ℕ) (x : A) → AreBytes s → R s ≡ Ok x → P s x
+  pub again : (s : List ℕ) (x : A) → P s x → R s ≡ Ok x
+  pub halts : (s : List ℕ) (left : ℕ) → AreBytes s → R s ≡ Err left → Halts W s left
+  pub halted : (s : List ℕ) (at : ℕ) → W s at → (left : ℕ) × (left + at ≡ length s) × (R s ≡ Err left)
+
+abbrev just : {A : Type 0} → A → Result A ℕ
+just x = Ok x
+
+whole_ok : {A : Type 0} (r : Field A) (x : A) → whole r ≡ Ok x → r ≡ Ok (x, [])
+whole_ok {A} (Ok (y, [])) x e = let same : y ≡ x = ok_is y x e in ap (λ (z : A). just (z, [])) same
+whole_ok (Ok (y, (b ∷ s))) x e = absurd cc
+whole_ok (Err left) x e = absurd cc
+
+whole_err : {A : Type 0} (r : Field A) (left : ℕ) → whole r ≡ Err left → (r ≡ Err left) ⊎ ((x : A) × (b : ℕ) × (s : List ℕ) × (r ≡ Ok (x, b ∷ s)) × (left ≡ suc (length s)))
+whole_err (Ok (y, [])) left e = absurd cc
+whole_err {A} (Ok (y, (b ∷ s))) left e = inr (y, b, s, refl, sym (err_is {A = A} (suc (length s)) left e))
+whole_err (Err n) left e = inl cc
+
+left_over : (s : List ℕ) → s ≢ [] → (b : ℕ) × (rest : List ℕ) × (s ≡ b ∷ rest)
+left_over [] some = absurd (some refl)
+left_over (b ∷ rest) some = (b, rest, refl)
+
+pub whole_read : {A : Type 0} (P : List ℕ → A → Type 0) (W : List ℕ → ℕ → Type 0) (R : List ℕ → Field A) → IsRead P W R → IsMessage P (StopsThen P W (λ x. IsLeftOver)) (λ s. whole (R s))
+whole_read {A} P W R p = record {
+  right = λ s x bytes e.
+      let t = p.takes s x [] bytes (whole_ok (R s) x e) in
+      subst (λ (l : List ℕ). P l x) (sym (t.whole ∙ append-nil t.prefix)) t.right;
+  again = λ s x h. ap whole (ap R (sym (append-nil s)) ∙ p.again s x [] h);
+  halts = λ s left bytes e.
+      elim (whole_err (R s) left e) [
+        | inl first ↦ let h = p.halts s left bytes first in record { at = h.at; there = h.there; wrong = inl h.wrong }
+        | inr a ↦
+            let t = p.takes s a.0 (a.1 ∷ a.2) bytes a.3 in
+            record {
+              at = length t.prefix + 0;
+              there = omega (arith, a.4, ap length t.whole, length-append t.prefix (a.1 ∷ a.2));
+              wrong = inr (record { first = a.0; prefix = t.prefix; suffix = a.1 ∷ a.2; further = 0; whole = t.whole; right = t.right; wrong = record { some = λ no. absurd cc; here = refl }; there = refl });
+            }
+      ];
+  halted = whole_halted;
+} where
+  whole_halted : (s : List ℕ) (at : ℕ) → StopsThen P W (λ x. IsLeftOver) s at → (left : ℕ) × (left + at ≡ length s) × (whole (R s) ≡ Err left)
+  whole_halted s at (inl w) = let h = p.halted s at w in (h.left, h.there, ap whole h.is)
+  whole_halted s at (inr w) =
+      let l = left_over w.suffix w.wrong.some in
+      let e : s ≡ w.prefix ++ (l.0 ∷ l.1) = w.whole ∙ ap (λ (r : List ℕ). w.prefix ++ r) l.2 in
+      (suc (length l.1), omega (arith, w.there, w.wrong.here, ap length e, length-append w.prefix (l.0 ∷ l.1)),
+      ap (λ (r : List ℕ). whole (R r)) e ∙ ap whole (p.again w.prefix w.first (l.0 ∷ l.1) w.right))
+
+module _ {A B : Type 0} (P : List ℕ → A → Type 0) (W : List ℕ → ℕ → Type 0) (R : List ℕ → Field A) (Q : A → List ℕ → B → Type 0) (V : A → List ℕ → ℕ → Type 0) (T : A → List ℕ → Result B ℕ) where
+
+  last_right : IsRead P W R → ((x : A) → IsMessage (Q x) (V x) (T x)) → (s : List ℕ) (y : B) → AreBytes s → (R s >>= λ x. T x.0 x.1) ≡ Ok y → IsThen P Q s y
+  last_right p q s y bytes e =
+      let a = bind_ok (R s) (λ x. T x.0 x.1) y e in
+      let t = p.takes s a.0.0 a.0.1 bytes a.1 in
+      record { first = a.0.0; prefix = t.prefix; suffix = a.0.1; whole = t.whole; right = t.right; next = (q a.0.0).right a.0.1 y (AreBytes-suffix s t.prefix a.0.1 t.whole bytes) a.2 }
+
+  last_again : IsRead P W R → ((x : A) → IsMessage (Q x) (V x) (T x)) → (s : List ℕ) (y : B) → IsThen P Q s y → (R s >>= λ x. T x.0 x.1) ≡ Ok y
+  last_again p q s y h = rw (h.whole, p.again h.prefix h.first h.suffix h.right) ((q h.first).again h.suffix y h.next)
+
+  last_halts : IsRead P W R → ((x : A) → IsMessage (Q x) (V x) (T x)) → (s : List ℕ) (left : ℕ) → AreBytes s → (R s >>= λ x. T x.0 x.1) ≡ Err left → Halts (StopsThen P W V) s left
+  last_halts p q s left bytes e =
+      elim (bind_err (R s) (λ x. T x.0 x.1) left e) [
+        | inl first ↦
+            let h = p.halts s left bytes first in
+            record { at = h.at; there = h.there; wrong = inl h.wrong }
+        | inr a ↦
+            let t = p.takes s a.0.0 a.0.1 bytes a.1 in
+            let h = (q a.0.0).halts a.0.1 left (AreBytes-suffix s t.prefix a.0.1 t.whole bytes) a.2 in
+            record {
+              at = length t.prefix + h.at;
+              there = omega (arith, h.there, ap length t.whole, length-append t.prefix a.0.1);
+              wrong = inr (record { first = a.0.0; prefix = t.prefix; suffix = a.0.1; further = h.at; whole = t.whole; right = t.right; wrong = h.wrong; there = refl });
+            }
+      ]
+
+  last_halted : IsRead P W R → ((x : A) → IsMessage (Q x) (V x) (T x)) → (s : List ℕ) (at : ℕ) → StopsThen P W V s at → (left : ℕ) × (left + at ≡ length s) × ((R s >>= λ x. T x.0 x.1) ≡ Err left)
+  last_halted p q s at (inl w) = let h = p.halted s at w in (h.left, h.there, rw h.is refl)
+  last_halted p q s at (inr w) =
+      let h = (q w.first).halted w.suffix w.further w.wrong in
+      (h.0, omega (arith, h.1, w.there, ap length w.whole, length-append w.prefix w.suffix), rw (w.whole, p.again w.prefix w.first w.suffix w.right) h.2)
+
+  pub last_read : IsRead P W R → ((x : A) → IsMessage (Q x) (V x) (T x)) → IsMessage (IsThen P Q) (StopsThen P W V) (λ s. R s >>= λ x. T x.0 x.1)
+  last_read p q = record { right = last_right p q; again = last_again p q; halts = last_halts p q; halted = last_halted p q }
+
+pub made_message : {A B : Type 0} (P : List ℕ → A → Type 0) (W : List ℕ → ℕ → Type 0) (R : List ℕ → Result A ℕ) (f : A → B) → IsMessage P W R → IsMessage (IsMade P f) W (λ s. R s >>= λ x. Ok (f x))
+made_message {A} {B} P W R f p = record {
+  right = λ s y bytes e. let a = bind_ok (R s) (λ x. Ok (f x)) y e in record { part = a.0; right = p.right s a.0 bytes a.1; is = sym (ok_is (f a.0) y a.2) };
+  again = λ s y h. rw (p.again s h.part h.right, h.is) refl;
+  halts = λ s left bytes e.
+      elim (bind_err (R s) (λ x. Ok (f x)) left e) [
+        | inl first ↦ p.halts s left bytes first
+        | inr a ↦ absurd (let no : done (f a.0) ≡ lost B left = a.2 in cc)
+      ];
+  halted = λ s at w. let h = p.halted s at w in (h.0, h.1, rw h.2 refl);
+}
+
+pub same_message : {A : Type 0} (P Q : List ℕ → A → Type 0) (W : List ℕ → ℕ → Type 0) (R : List ℕ → Result A ℕ) →
+    ((s : List ℕ) (x : A) → P s x → Q s x) → ((s : List ℕ) (x : A) → Q s x → P s x) → IsMessage P W R → IsMessage Q W R
+same_message P Q W R forth back p = record {
+  right = λ s x bytes e. forth s x (p.right s x bytes e);
+  again = λ s x h. p.again s x (back s x h);
+  halts = p.halts;
+  halted = p.halted;
 }

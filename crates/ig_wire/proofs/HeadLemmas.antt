@@ -28,6 +28,19 @@ number_is n a b told fault e is = let p : pair a b ≡ pair told fault = cc in i
 int_is : (x y : ℤ) → int_eq x y ≡ true → x ≡ y
 int_is x y e = (Decides-int_eq x y).0 e
 
+not_zero : (x : ℤ) → int_eq x (pos 0) ≡ false → x ≢ pos 0
+not_zero x e is = let yes = (Decides-int_eq x (pos 0)).1 is in let no = sym yes ∙ e in cc
+
+zero_test : (x : ℤ) → x ≡ pos 0 → int_eq x (pos 0) ≡ true
+zero_test x is = (Decides-int_eq x (pos 0)).1 is
+
+other_by : (x : ℤ) (b : Bool) → int_eq x (pos 0) ≡ b → x ≢ pos 0 → b ≡ false
+other_by x true e other = absurd (other (int_is x (pos 0) e))
+other_by x false e other = refl
+
+other_test : (x : ℤ) → x ≢ pos 0 → int_eq x (pos 0) ≡ false
+other_test x other = other_by x (int_eq x (pos 0)) refl other
+
 parts_by : (n : ℤ) (told fault a b c d : Bool) → int_eq n (pos 0) ≡ a → int_eq n (pos 1) ≡ b → int_eq n (pos 2) ≡ c → int_eq n (pos 3) ≡ d
     → parts_of n ≡ Some (pair told fault) → n ≡ flag_number told fault
 parts_by n told fault true b c d ea eb ec ed e =
@@ -230,3 +243,129 @@ abbrev IsAfterStatus : ℤ → List ℕ → Told → Type 0
 IsAfterStatus status s (None, None) = (status ≡ pos 0) × (s ≡ [])
 IsAfterStatus status s (None, (Some fault)) = (status ≢ pos 0) × (fault.status ≡ status) × IsString s fault.text
 IsAfterStatus status s ((Some t), fault) = ⊥
+
+pub flagged_read : IsRead (IsTold true) (StopsTold true) (told_of true)
+flagged_read =
+    same_read MadeFlagged (IsTold true) (StopsTold true) (told_of true) flagged_forth flagged_back
+    (then_read IsFlags StopsFlags flags_of (λ parts. IsThen (IsTopologyField parts.0) (λ t. IsMade (IsFaultField parts.1) (told_with t))) (λ parts. StopsThen (IsTopologyField parts.0) (StopsTopology parts.0) (λ t. StopsFault parts.1))
+    (λ parts s. topology_of parts.0 s >>= λ t. (fault_of parts.1 t.1 >>= λ fault. Ok (told_with t.0 fault.0, fault.1))) flags_read
+    (λ parts. then_read (IsTopologyField parts.0) (StopsTopology parts.0) (topology_of parts.0) (λ t. IsMade (IsFaultField parts.1) (told_with t)) (λ t. StopsFault parts.1)
+    (λ t s. fault_of parts.1 s >>= λ fault. Ok (told_with t fault.0, fault.1)) (topology_read parts.0)
+    (λ t. made_read (IsFaultField parts.1) (StopsFault parts.1) (fault_of parts.1) (told_with t) (fault_read parts.1))))
+
+-- ---- a status
+
+abbrev after_status : ℤ → List ℕ → Field Told
+after_status status s = fault_after status s >>= λ fault. Ok (told_with None (some_fault fault.0), fault.1)
+
+after_made : (status : ℤ) (s : List ℕ) (fault : Fault) → status ≢ pos 0 → IsMade IsString (fault_with status) s fault → IsAfterStatus status s (told_with None (some_fault fault))
+after_made status s fault other h = (other, ap (λ (f : Fault). f.status) h.is, subst (λ (text : List ℕ). IsString s text) (ap (λ (f : Fault). f.text) (sym h.is)) h.right)
+
+status_takes : (status : ℤ) (s : List ℕ) (x : Told) (rest : List ℕ) (zero' : Bool) → int_eq status (pos 0) ≡ zero' → AreBytes s → status_of status s ≡ Ok (x, rest) → Takes (IsAfterStatus status) s x rest
+status_takes status s x rest true is bytes e =
+    let here : status_of status s ≡ Ok (told_with None None, s) = rw is refl in
+    let all : Takes (IsAfterStatus status) s (told_with None None) s = record { prefix = []; whole = refl; right = (int_is status (pos 0) is, refl) } in
+    subst (λ (z : Told × List ℕ). Takes (IsAfterStatus status) s z.0 z.1) (ok_is (told_with None None, s) (x, rest) (sym here ∙ e)) all
+status_takes status s x rest false is bytes e =
+    let here : status_of status s ≡ after_status status s = rw is refl in
+    let a = bind_ok (fault_after status s) (λ fault. Ok (told_with None (some_fault fault.0), fault.1)) (x, rest) (sym here ∙ e) in
+    let t = (fault_after_read status).takes s a.0.0 a.0.1 bytes a.1 in
+    let made : Told × List ℕ = (told_with None (some_fault a.0.0), a.0.1) in
+    let all : Takes (IsAfterStatus status) s made.0 made.1 = record {
+      prefix = t.prefix;
+      whole = t.whole;
+      right = after_made status t.prefix a.0.0 (not_zero status is) t.right;
+    } in
+    subst (λ (z : Told × List ℕ). Takes (IsAfterStatus status) s z.0 z.1) (ok_is made (x, rest) a.2) all
+
+status_again : (status : ℤ) (s : List ℕ) (x : Told) (rest : List ℕ) → IsAfterStatus status s x → status_of status (s ++ rest) ≡ Ok (x, rest)
+status_again status s (None, None) rest h = rw (zero_test status h.0, h.1) refl
+status_again status s (None, (Some fault)) rest h =
+    let read : fault_after status (s ++ rest) ≡ Ok (fault_with status fault.text, rest) = (fault_after_read status).again s (fault_with status fault.text) rest (record { part = fault.text; right = h.2; is = refl }) in
+    let same : fault_with status fault.text ≡ fault = ap (λ (n : ℤ). fault_with n fault.text) (sym h.1) in
+    rw (other_test status h.0, read) (ap (λ (f : Fault). Ok (told_with None (some_fault f), rest)) same)
+status_again status s ((Some t), fault) rest h = absurd h
+
+status_halts : (status : ℤ) (s : List ℕ) (left : ℕ) (zero' : Bool) → int_eq status (pos 0) ≡ zero' → AreBytes s → status_of status s ≡ Err left → Halts (StopsStatus status) s left
+status_halts status s left true is bytes e = absurd (let here : status_of status s ≡ Ok (told_with None None, s) = rw is refl in let no = sym here ∙ e in cc)
+status_halts status s left false is bytes e =
+    let here : status_of status s ≡ after_status status s = rw is refl in
+    elim (bind_err (fault_after status s) (λ fault. Ok (told_with None (some_fault fault.0), fault.1)) left (sym here ∙ e)) [
+      | inl first ↦ let h = (fault_after_read status).halts s left bytes first in record { at = h.at; there = h.there; wrong = (not_zero status is, h.wrong) }
+      | inr a ↦ absurd (let no = a.2 in cc)
+    ]
+
+status_halted : (status : ℤ) (s : List ℕ) (at : ℕ) → StopsStatus status s at → Halted (status_of status) s at
+status_halted status s at w =
+    let h = (fault_after_read status).halted s at w.1 in
+    record { left = h.left; there = h.there; is = rw (other_test status w.0, h.is) refl }
+
+pub status_read : (status : ℤ) → IsRead (IsAfterStatus status) (StopsStatus status) (status_of status)
+status_read status = record {
+  takes = λ s x rest bytes e. status_takes status s x rest (int_eq status (pos 0)) refl bytes e;
+  again = status_again status;
+  halts = λ s left bytes e. status_halts status s left (int_eq status (pos 0)) refl bytes e;
+  halted = status_halted status;
+}
+
+abbrev MadeStatus : List ℕ → Told → Type 0
+MadeStatus = IsThen (IsNumber w32) IsAfterStatus
+
+unflagged_forth : (s : List ℕ) (x : Told) → MadeStatus s x → IsTold false s x
+unflagged_forth s (None, None) h = (tt, tt, tt, h.whole ∙ rw (h.next.1, h.right.1, h.next.0) (append-nil (LE w32 (pos 0))))
+unflagged_forth s (None, (Some fault)) h =
+    let n = h.next in
+    (tt, (subst (λ (n : ℤ). FitsSigned w32 n) (sym n.1) h.right.0, n.2.0), (λ is. n.0 (sym n.1 ∙ is)), h.whole ∙ rw (h.right.1, n.2.1, n.1) refl)
+unflagged_forth s ((Some t), fault) h = absurd h.next
+
+unflagged_back : (s : List ℕ) (x : Told) → IsTold false s x → MadeStatus s x
+unflagged_back s (None, None) h = record { first = pos 0; prefix = LE w32 (pos 0); suffix = []; whole = h.3 ∙ sym (append-nil (LE w32 (pos 0))); right = (search rules, refl); next = (refl, refl) }
+unflagged_back s (None, (Some fault)) h = record {
+  first = fault.status;
+  prefix = LE w32 fault.status;
+  suffix = string fault.text;
+  whole = h.3;
+  right = (h.1.0, refl);
+  next = (h.2, refl, (h.1.1, refl));
+}
+unflagged_back s ((Some t), fault) h = absurd h.2
+
+pub told_read : (flagged : Bool) → IsRead (IsTold flagged) (StopsTold flagged) (told_of flagged)
+told_read true = flagged_read
+told_read false =
+    same_read MadeStatus (IsTold false) (StopsTold false) (told_of false) unflagged_forth unflagged_back
+    (then_read (IsNumber w32) (IsShort 4) (number_of w32) IsAfterStatus StopsStatus status_of i32_read status_read)
+
+-- ---- heads
+
+abbrev head_with : ℤ → Told → ReplyHead
+head_with id told = record { id = id; told = told.0; fault = told.1 }
+
+abbrev MadeHead : Version → List ℕ → ReplyHead → Type 0
+MadeHead v = IsThen (IsNumber w64) (λ id. IsMade (IsTold (has_flags v)) (head_with id))
+
+-- the bytes are the head
+abbrev pub IsHeadField : Version → List ℕ → ReplyHead → Type 0
+IsHeadField v s head = IsHead v head × (s ≡ head_bytes v head)
+
+head_forth : (v : Version) (s : List ℕ) (head : ReplyHead) → MadeHead v s head → IsHeadField v s head
+head_forth v s head h =
+    let t = h.next.right in
+    rw h.next.is (record { id = h.right.0; told = t.0; fault = t.1; may = t.2 }, h.whole ∙ rw (h.right.1, t.3) refl)
+
+head_back : (v : Version) (s : List ℕ) (head : ReplyHead) → IsHeadField v s head → MadeHead v s head
+head_back v s head h = record {
+  first = head.id;
+  prefix = LE w64 head.id;
+  suffix = told_bytes (has_flags v) head.told head.fault;
+  whole = h.1;
+  right = (h.0.id, refl);
+  next = record { part = told_with head.told head.fault; right = (h.0.told, h.0.fault, h.0.may, refl); is = refl };
+}
+
+pub head_read : (v : Version) → IsRead (IsHeadField v) (StopsHead v) (head_of v)
+head_read v =
+    same_read (MadeHead v) (IsHeadField v) (StopsHead v) (head_of v) (head_forth v) (head_back v)
+    (then_read (IsNumber w64) (IsShort 8) (number_of w64) (λ id. IsMade (IsTold (has_flags v)) (head_with id)) (λ id. StopsTold (has_flags v))
+    (λ id s. told_of (has_flags v) s >>= λ told. Ok (head_with id told.0, told.1)) i64_read
+    (λ id. made_read (IsTold (has_flags v)) (StopsTold (has_flags v)) (told_of (has_flags v)) (head_with id) (told_read (has_flags v))))

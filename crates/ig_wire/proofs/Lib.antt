@@ -1,3 +1,4 @@
 pub mod AgreeLemmas
 pub mod LeafLemmas
 pub mod HeadLemmas
+pub mod HelloReplyLemmas

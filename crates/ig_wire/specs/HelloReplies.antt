@@ -61,28 +61,24 @@ IsVersionField s v = IsVersion v × (s ≡ version_bytes v)
 abbrev pub StopsVersion : List ℕ → ℕ → Type 0
 StopsVersion = StopsThen (IsNumber w16) (IsShort 2) (λ major. StopsThen (IsNumber w16) (IsShort 2) (λ minor. IsShort 2))
 
--- one to three bytes are left
+-- one to three bytes are left, or more than four
 abbrev pub StopsCode : List ℕ → ℕ → Type 0
-StopsCode s at = (s ≢ []) × IsShort 4 s at
+StopsCode s at = (s ≢ []) × StopsThen (IsNumber w32) (IsShort 4) (λ n. IsLeftOver) s at
 
 abbrev pub StopsRefusal : List ℕ → ℕ → Type 0
 StopsRefusal = StopsThen IsVersionField StopsVersion (λ version. StopsThen IsString StopsString (λ text. StopsCode))
 
 abbrev pub StopsAcceptance : Bool → List ℕ → ℕ → Type 0
-StopsAcceptance false s at = ⊥
-StopsAcceptance true s at = StopsNode s at
+StopsAcceptance false = IsLeftOver
+StopsAcceptance true = StopsThen IsNodeObject StopsNode (λ node. IsLeftOver)
 
-abbrev pub StopsVerdictGiven : Version → Bool → List ℕ → ℕ → Type 0
-StopsVerdictGiven v false s at = StopsRefusal s at
-StopsVerdictGiven v true s at = StopsAcceptance (has_flags v) s at
+abbrev pub StopsAfterVerdict : Version → Bool → List ℕ → ℕ → Type 0
+StopsAfterVerdict v false = StopsRefusal
+StopsAfterVerdict v true = StopsAcceptance (has_flags v)
 
--- the bytes begin with no reply to a hello
+-- the bytes are no reply to a hello: one of its parts is wrong, or bytes follow it
 abbrev pub StopsHelloReply : Version → List ℕ → ℕ → Type 0
-StopsHelloReply v = StopsThen IsVerdict StopsVerdict (StopsVerdictGiven v)
-
--- the bytes are no such reply as a whole: they begin with none, or bytes follow it
-abbrev pub IsNoHelloReply : Version → List ℕ → ℕ → Type 0
-IsNoHelloReply v = StopsThen (λ s reply. IsHelloReply v reply × (s ≡ hello_reply_bytes reply)) (StopsHelloReply v) (λ reply. IsLeftOver)
+StopsHelloReply v = StopsThen IsVerdict StopsVerdict (StopsAfterVerdict v)
 
 -- ---- reading it from left to right
 
@@ -94,29 +90,30 @@ version_of s = do
   Ok (record { major = major.0; minor = minor.0; patch = patch.0 }, patch.1)
 
 -- a code, where bytes are left
-abbrev pub code_of : List ℕ → Field (Option ℤ)
-code_of [] = Ok (None, [])
-code_of (b ∷ s) = number_of w32 (b ∷ s) >>= λ n. Ok (Some n.0, n.1)
+abbrev pub code_of : List ℕ → Result (Option ℤ) ℕ
+code_of [] = Ok None
+code_of (b ∷ s) = whole (number_of w32 (b ∷ s)) >>= λ n. Ok (Some n)
 
-abbrev pub refusal_of : List ℕ → Field HelloReply
+abbrev pub refusal_of : List ℕ → Result HelloReply ℕ
 refusal_of s = do
   version ← version_of s
   text ← string_of version.1
   n ← code_of text.1
-  Ok (Refused version.0 text.0 n.0, n.1)
+  Ok (Refused version.0 text.0 n)
 
 -- a first byte: 0 refuses the hello, and 1 accepts it
 abbrev pub verdict_of : List ℕ → Field Bool
 verdict_of [] = Err 0
 verdict_of (b ∷ s) = if b == 0 then Ok (false, s) else (if b == 1 then Ok (true, s) else Err (suc (length s)))
 
-abbrev pub acceptance_of : Bool → List ℕ → Field HelloReply
-acceptance_of false s = Ok (Accepted None, s)
-acceptance_of true s = node_of s >>= λ node. Ok (Accepted (Some node.0), node.1)
+abbrev pub acceptance_of : Bool → List ℕ → Result HelloReply ℕ
+acceptance_of false s = whole (Ok (Accepted None, s))
+acceptance_of true s = whole (node_of s) >>= λ node. Ok (Accepted (Some node))
 
-abbrev pub reply_after : Version → Bool → List ℕ → Field HelloReply
+abbrev pub reply_after : Version → Bool → List ℕ → Result HelloReply ℕ
 reply_after v false s = refusal_of s
 reply_after v true s = acceptance_of (has_flags v) s
 
-abbrev pub hello_reply_of : Version → List ℕ → Field HelloReply
-hello_reply_of v s = verdict_of s >>= λ yes. reply_after v yes.0 yes.1
+-- the reply that the bytes are, all of them
+abbrev pub hello_reply_of : Version → List ℕ → Result HelloReply ℕ
+hello_reply_of v s = verdict_of s >>= λ accepts. reply_after v accepts.0 accepts.1

@@ -4,7 +4,7 @@ ghost use Rattle.std.specs.Prelude.{◌≡◌, length, if◌then◌else◌};
 ghost use Rattle.std.specs.Int.{w16, w32, w64, from_le_bytes};
 ghost use Rattle.ig_value.specs.Part.{u64};
 ghost use Rattle.ig_value.specs.Reading.{scalar_at};
-ghost use Rattle.ig_wire.specs.Fields.{placed, end_of, number_of, string_of as string_read, nullable_string_of as nullable_string_read, node_of as node_read};
+ghost use Rattle.ig_wire.specs.Fields.{placed, end_of as end_read, number_of, string_of as string_read, nullable_string_of as nullable_string_read, node_of as node_read};
 ghost use Rattle.ig_wire.specs.FieldAnswers.{FieldAnswers};
 
 use crate::stop::Stop;
@@ -56,7 +56,7 @@ pub(crate) fn string_of(bytes: &[u8]) -> Result<(&str, &[u8]), Stop>
 
 /// Passes a String or a null.
 pub(crate) fn nullable_string_end(bytes: &[u8]) -> Result<&[u8], Stop>
-    ensures { FieldAnswers (λ rest. rest.now) result (end_of (nullable_string_read bytes.now)) }
+    ensures { FieldAnswers (λ rest. rest.now) result (end_read (nullable_string_read bytes.now)) }
 {
     match bytes.split_first() {
         Some((byte, rest)) if *byte == Code::Null.byte() => Ok(rest),

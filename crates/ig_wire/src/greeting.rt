@@ -69,9 +69,8 @@ fn tail_login(version: Version, tail: &[u8]) -> Result<bool, Stop>
     }
     let rest = nullable_string_end(tail)?;
     let rest = nullable_string_end(rest)?;
-    if rest.is_empty() {
-        Ok(true)
-    } else {
-        Err(Stop { left: rest.len() })
+    if !rest.is_empty() {
+        return Err(Stop { left: rest.len() });
     }
+    Ok(true)
 }

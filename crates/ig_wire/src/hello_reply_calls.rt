@@ -1,7 +1,6 @@
 //! Reads the replies to hellos.
 
 ghost use Rattle.std.specs.Prelude.{◌≡◌};
-ghost use Rattle.ig_wire.specs.Fields.{whole};
 ghost use Rattle.ig_wire.specs.HelloReplies as replies;
 ghost use Rattle.ig_wire.specs.FieldAnswers.{FieldAnswers};
 ghost use Rattle.ig_wire.specs.ReadAnswers.{ReadAnswers, MessageAnswers};
@@ -30,9 +29,9 @@ pub fn read_hello_reply(
     version: Version,
     body: &[u8],
 ) -> Result<HelloReply, ReadFault>
-    ensures { MessageAnswers body.now result (whole (replies.hello_reply_of version body.now)) }
+    ensures { MessageAnswers body.now result (replies.hello_reply_of version body.now) }
 {
-    match whole_reply(alloc, version, body) {
+    match reply_of(alloc, version, body) {
         Ok(reply) => Ok(reply),
         Err(ReadError::NoMemory) => Err(ReadFault::NoMemory),
         Err(ReadError::Stopped(stop)) => Err(ReadFault::Unread(Unread {
@@ -42,25 +41,8 @@ pub fn read_hello_reply(
 }
 
 /// The reply that the bytes are, all of them.
-fn whole_reply(alloc: Global, version: Version, bytes: &[u8]) -> Result<HelloReply, ReadError>
-    ensures { ReadAnswers (λ x. x) result (whole (replies.hello_reply_of version bytes.now)) }
-{
-    let (reply, rest) = reply_of(alloc, version, bytes)?;
-    if rest.is_empty() {
-        Ok(reply)
-    } else {
-        Err(ReadError::Stopped(Stop { left: rest.len() }))
-    }
-}
-
-/// The reply, and the bytes after it.
-fn reply_of(
-    alloc: Global,
-    version: Version,
-    bytes: &[u8],
-) -> Result<(HelloReply, &[u8]), ReadError>
-    ensures { ReadAnswers (λ x. (x.0, x.1.now))
-        result (replies.hello_reply_of version bytes.now) }
+fn reply_of(alloc: Global, version: Version, bytes: &[u8]) -> Result<HelloReply, ReadError>
+    ensures { ReadAnswers (λ x. x) result (replies.hello_reply_of version bytes.now) }
 {
     let (is_accepted, rest) = verdict_of(bytes)?;
     if !is_accepted {
@@ -84,33 +66,35 @@ fn verdict_of(bytes: &[u8]) -> Result<(bool, &[u8]), Stop>
     }
 }
 
-/// What follows the first byte of a reply that accepts the hello.
-fn acceptance_of(tells_node: bool, bytes: &[u8]) -> Result<(HelloReply, &[u8]), Stop>
-    ensures { FieldAnswers (λ x. (x.0, x.1.now))
-        result (replies.acceptance_of tells_node bytes.now) }
+/// The reply that accepts the hello, after its first byte.
+fn acceptance_of(tells_node: bool, bytes: &[u8]) -> Result<HelloReply, Stop>
+    ensures { FieldAnswers (λ x. x) result (replies.acceptance_of tells_node bytes.now) }
 {
     if !tells_node {
-        return Ok((HelloReply::Accepted { node: None }, bytes));
+        if !bytes.is_empty() {
+            return Err(Stop { left: bytes.len() });
+        }
+        return Ok(HelloReply::Accepted { node: None });
     }
     let (node, rest) = node_of(bytes)?;
-    Ok((HelloReply::Accepted { node: Some(node) }, rest))
+    if !rest.is_empty() {
+        return Err(Stop { left: rest.len() });
+    }
+    Ok(HelloReply::Accepted { node: Some(node) })
 }
 
-/// What follows the first byte of a reply that refuses it.
-fn refusal_of(alloc: Global, bytes: &[u8]) -> Result<(HelloReply, &[u8]), ReadError>
-    ensures { ReadAnswers (λ x. (x.0, x.1.now)) result (replies.refusal_of bytes.now) }
+/// The reply that refuses it, after its first byte.
+fn refusal_of(alloc: Global, bytes: &[u8]) -> Result<HelloReply, ReadError>
+    ensures { ReadAnswers (λ x. x) result (replies.refusal_of bytes.now) }
 {
     let (version, rest) = version_of(bytes)?;
     let (text, rest) = text_of(alloc, rest)?;
-    let (code, rest) = code_of(rest)?;
-    Ok((
-        HelloReply::Refused {
-            version,
-            text,
-            code,
-        },
-        rest,
-    ))
+    let code = code_of(rest)?;
+    Ok(HelloReply::Refused {
+        version,
+        text,
+        code,
+    })
 }
 
 /// A version.
@@ -131,12 +115,15 @@ fn version_of(bytes: &[u8]) -> Result<(Version, &[u8]), Stop>
 }
 
 /// A code, where bytes are left.
-fn code_of(bytes: &[u8]) -> Result<(Option<i32>, &[u8]), Stop>
-    ensures { FieldAnswers (λ x. (x.0, x.1.now)) result (replies.code_of bytes.now) }
+fn code_of(bytes: &[u8]) -> Result<Option<i32>, Stop>
+    ensures { FieldAnswers (λ x. x) result (replies.code_of bytes.now) }
 {
     if bytes.is_empty() {
-        return Ok((None, bytes));
+        return Ok(None);
     }
     let (code, rest) = i32_of(bytes)?;
-    Ok((Some(code), rest))
+    if !rest.is_empty() {
+        return Err(Stop { left: rest.len() });
+    }
+    Ok(Some(code))
 }
