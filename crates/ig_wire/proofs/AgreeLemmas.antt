@@ -1,6 +1,7 @@
 -- A reader of fields, the bytes that it reads, and where they stop: how each way of putting fields
 -- together keeps their agreement.
-use Rattle.std.proofs.Common.{◌≡◌, ℕ, zero, suc, ◌+◌, List, [], ◌∷◌, ◌++◌, length, take, drop, ◌≢◌, Result, Ok, Err, refl, sym, ap, subst, ◌∙◌, append_assoc, append-nil, arith, inl, inr, length-append, ◌⊎◌}
+use Rattle.std.proofs.Common.{◌≡◌, ℕ, zero, suc, ◌+◌, ◌-◌, ◌≤◌, List, [], ◌∷◌, ◌++◌, length, take, drop, ◌≢◌, Result, Ok, Err, refl, sym, ap, subst, ◌∙◌, append_assoc, append-nil, arith, inl, inr, length-append, ◌⊎◌}
+use Rattle.std.proofs.lemmas.List.{drop_at}
 use Rattle.ig_base.specs.Numbers.{AreBytes}
 use Rattle.ig_value.specs.declared.Cause.{Cause}
 use Rattle.ig_value.specs.Reading.{Fault, Read}
@@ -301,3 +302,10 @@ same_message P Q W R forth back p = record {
   halts = p.halts;
   halted = p.halted;
 }
+
+-- where what is left of the bytes begins
+pub rest_at : (body prefix rest : List ℕ) → body ≡ prefix ++ rest → (length rest ≤ length body) × (drop (length body - length rest) body ≡ rest)
+rest_at body prefix rest e =
+    let lens : length body ≡ length prefix + length rest = ap length e ∙ length-append prefix rest in
+    let size : length body - length rest ≡ length prefix = omega (arith, lens) in
+    (omega (arith, lens), ap (λ (n : ℕ). drop n body) size ∙ ap (drop (length prefix)) e ∙ drop_at prefix rest (length prefix) refl)

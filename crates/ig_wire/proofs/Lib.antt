@@ -2,3 +2,4 @@ pub mod AgreeLemmas
 pub mod LeafLemmas
 pub mod HeadLemmas
 pub mod HelloReplyLemmas
+pub mod GreetLemmas

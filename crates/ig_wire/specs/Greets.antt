@@ -34,14 +34,21 @@ abbrev pub MayLogin : Version → Option Login → Type 0
 MayLogin v None = Unit {0}
 MayLogin v (Some login) = has_login v ≡ true
 
--- what follows the client code: nothing, or from 1.1.0 on two Strings or nulls, which are a login
+-- a name and a password, of which each may be null
+abbrev pub Credentials : Type 0
+Credentials = Option (List ℕ) × Option (List ℕ)
+
+abbrev pub IsLogin : List ℕ → Credentials → Type 0
+IsLogin s x = IsNullableText x.0 × IsNullableText x.1 × (s ≡ nullable_string x.0 ++ nullable_string x.1)
+
+-- what follows the client code: nothing, or from 1.1.0 on a login
 abbrev pub IsTail : Version → List ℕ → Bool → Type 0
 IsTail v s false = s ≡ []
-IsTail v s true = (has_login v ≡ true) × ((name password : Option (List ℕ)) × IsNullableText name × IsNullableText password × (s ≡ nullable_string name ++ nullable_string password))
+IsTail v s true = (has_login v ≡ true) × ((x : Credentials) × IsLogin s x)
 
--- a name stops, or a password after it does, or bytes follow them
+-- the name stops, or the password after it does, or bytes follow both
 abbrev pub StopsLogin : List ℕ → ℕ → Type 0
-StopsLogin = StopsThen IsNullableString StopsNullableString (λ name. StopsThen IsNullableString StopsNullableString (λ password. IsLeftOver))
+StopsLogin = StopsThen IsLogin (StopsThen IsNullableString StopsNullableString (λ name. StopsNullableString)) (λ x. IsLeftOver)
 
 -- what follows the client code is neither nothing nor a login
 abbrev pub StopsTail : Version → List ℕ → ℕ → Type 0
@@ -75,7 +82,7 @@ short_at body at = unwrap_or (number_at w16 body at) (pos 0)
 abbrev pub version_at : List ℕ → ℕ → Version
 version_at body at = record { major = short_at body at; minor = short_at body (at + 2); patch = short_at body (at + 4) }
 
-abbrev pub login_of : List ℕ → Field (Option (List ℕ) × Option (List ℕ))
+abbrev pub login_of : List ℕ → Field Credentials
 login_of s = do
   name ← nullable_string_of s
   password ← nullable_string_of name.1

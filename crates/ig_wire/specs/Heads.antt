@@ -1,5 +1,5 @@
 -- The heads of replies.
-use Rattle.std.specs.Prelude.{◌≡◌, ◌≢◌, ℕ, ◌+◌, ◌⊎◌, ℤ, pos, Bool, true, false, List, [], ◌++◌, length, Option, None, Some, is_some, Result, Ok, Err, if◌then◌else◌, FitsSigned}
+use Rattle.std.specs.Prelude.{◌≡◌, ◌≢◌, ℕ, ◌+◌, ◌<◌, ◌^◌, ◌⊎◌, ℤ, pos, Bool, true, false, List, [], ◌++◌, length, Option, None, Some, is_some, Result, Ok, Err, if◌then◌else◌, FitsSigned}
 use Rattle.std.specs.Ordering.{int_eq}
 use Rattle.std.specs.Int.{w16, w32, w64}
 use Rattle.ig_base.specs.Numbers.{LE}
@@ -57,6 +57,11 @@ MayTell true told fault = Unit {0}
 MayTell false (Some t) fault = ⊥
 MayTell false None None = Unit {0}
 MayTell false None (Some fault) = fault.status ≢ pos 0
+
+-- an Int32 counts the bytes of the fault's text
+abbrev pub HasShortText : Option Fault → Type 0
+HasShortText None = Unit {0}
+HasShortText (Some fault) = length fault.text < 2 ^ 31
 
 -- the head is one of this version
 pub record IsHead (v : Version) (head : ReplyHead) : Type 0 where

@@ -36,3 +36,10 @@ pub(crate) fn put_version(out: &mut Octets, version: Version) -> Result<(), NoMe
     put_i16(out, version.minor)?;
     put_i16(out, version.patch)
 }
+
+/// The number of bytes of a String: its code, the count and the text.
+pub(crate) fn string_len(text: &str) -> usize
+    ensures { result ≡ length (string text.now) }
+{
+    5 + text.len()
+}
