@@ -3,3 +3,4 @@ pub mod LeafLemmas
 pub mod HeadLemmas
 pub mod HelloReplyLemmas
 pub mod GreetLemmas
+pub mod WriteLemmas

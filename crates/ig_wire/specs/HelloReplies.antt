@@ -42,6 +42,21 @@ abbrev pub IsHelloReply : Version → HelloReply → Type 0
 IsHelloReply v (Accepted node) = TellsNode v node
 IsHelloReply v (Refused highest text n) = IsVersion highest × IsText text × IsCode n
 
+-- the identifier is there exactly from 1.4.0 on
+abbrev pub HasNodeAt : Version → Option NodeId → Type 0
+HasNodeAt v None = has_flags v ≡ false
+HasNodeAt v (Some node) = has_flags v ≡ true
+
+abbrev pub HasNoCode : HelloReply → Type 0
+HasNoCode (Accepted _) = Unit {0}
+HasNoCode (Refused highest text None) = Unit {0}
+HasNoCode (Refused highest text (Some n)) = ⊥
+
+-- a server of this version writes it: without a code
+abbrev pub MayWrite : Version → HelloReply → Type 0
+MayWrite v (Accepted node) = HasNodeAt v node
+MayWrite v (Refused highest text n) = HasNoCode (Refused highest text n)
+
 -- ---- where bytes stop being one
 
 -- a first byte

@@ -18,10 +18,10 @@ use std::alloc::Global;
 pub const LEAST_HELLO_REPLY: u32 = 1;
 
 /// The first byte of a reply that refuses the hello.
-const REFUSED: u8 = 0;
+pub(crate) const REFUSED: u8 = 0;
 
 /// The first byte of a reply that accepts it.
-const ACCEPTED: u8 = 1;
+pub(crate) const ACCEPTED: u8 = 1;
 
 /// Reads the reply to a hello that asked for this version.
 pub fn read_hello_reply(

@@ -19,8 +19,8 @@ pub fn write_hello(
     login: Option<&Login>,
     out: &mut Octets,
 ) -> Result<(), NoMemory>
-    requires login { MayLogin version (option_copied login.entry) }
-    requires small { length (hello_bytes version (option_copied login.entry)) ≤ max_body }
+    requires login { MayLogin version (option_copied login) }
+    requires small { length (hello_bytes version (option_copied login)) ≤ max_body }
     ensures ok { OnOk result (out.new
         ≡ out.old ++ Frame (hello_bytes version (option_copied login.entry))) }
     ensures err { OnErr result (out.new ≡ out.old) }
@@ -32,7 +32,7 @@ pub fn write_hello(
 
 /// Appends the frame of a hello.
 fn put_hello(out: &mut Octets, version: Version, login: Option<&Login>) -> Result<(), NoMemory>
-    requires { length (hello_bytes version (option_copied login.entry)) ≤ max_body }
+    requires { length (hello_bytes version (option_copied login)) ≤ max_body }
     ensures { OnOk result (out.new
         ≡ out.old ++ Frame (hello_bytes version (option_copied login.entry))) }
 {

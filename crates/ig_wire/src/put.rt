@@ -38,6 +38,7 @@ pub(crate) fn put_version(out: &mut Octets, version: Version) -> Result<(), NoMe
 }
 
 /// The number of bytes of a String: its code, the count and the text.
+#[tactic(auto, unfolding(ig_base::specs::Numbers::LE))]
 pub(crate) fn string_len(text: &str) -> usize
     ensures { result ≡ length (string text.now) }
 {
