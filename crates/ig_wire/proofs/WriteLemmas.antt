@@ -83,3 +83,11 @@ refused_framed out a b c d v text n size is second third fourth =
 pub no_code : (v : Version) (text : List ℕ) (n : Option ℤ) → HasNoCode (Refused v text n) → n ≡ None
 no_code v text None h = refl
 no_code v text (Some n) h = absurd h
+
+-- the data object of a UUID, from its parts
+pub node_put : (out a b d most least : List ℕ) (node : NodeId) (byte : ℕ) → byte ≡ 10 → a ≡ out ++ byte ∷ [] → most ≡ LE w64 (pos node.most) → b ≡ a ++ most → least ≡ LE w64 (pos node.least) → d ≡ b ++ least
+    → d ≡ out ++ node_bytes (Some node)
+node_put out a b d most least node byte is first high second low third =
+    third ∙ ap (λ (l : List ℕ). l ++ least) (second ∙ ap (λ (l : List ℕ). l ++ most) (first ∙ ap (λ (n : ℕ). out ++ n ∷ []) is))
+    ∙ append_assoc (out ++ 10 ∷ []) most least ∙ append_assoc out (10 ∷ []) (most ++ least)
+    ∙ ap (λ (l : List ℕ). out ++ 10 ∷ (l ++ least)) high ∙ ap (λ (l : List ℕ). out ++ 10 ∷ (LE w64 (pos node.most) ++ l)) low

@@ -3,7 +3,7 @@ use Rattle.std.specs.Prelude.{◌≡◌, ◌≢◌, ℕ, suc, ◌+◌, ◌-◌, 
 use Rattle.std.specs.Int.{w16}
 use Rattle.ig_base.specs.Numbers.{number_at}
 use Rattle.ig_wire.specs.Versions.{version_bytes, IsVersion, is_accepted, has_login}
-use Rattle.ig_wire.specs.Fields.{string, nullable_string, IsNullableText, IsNullableString, StopsNullableString, IsLeftOver, StopsThen, Field, ◌>>=◌, nullable_string_of, whole, frame_place}
+use Rattle.ig_wire.specs.Fields.{string, nullable_string, IsText, IsNullableText, IsNullableString, StopsNullableString, IsLeftOver, StopsThen, Field, ◌>>=◌, nullable_string_of, whole, frame_place}
 use Rattle.ig_wire.specs.declared.version.Version.{Version}
 use Rattle.ig_wire.specs.declared.hello.Hello.{Hello}
 use Rattle.ig_wire.specs.declared.hello.Login.{Login}
@@ -33,6 +33,11 @@ hello_bytes v login = hello_start v thin_client ++ login_bytes login
 abbrev pub MayLogin : Version → Option Login → Type 0
 MayLogin v None = Unit {0}
 MayLogin v (Some login) = has_login v ≡ true
+
+-- both are what a String can hold
+abbrev pub IsLoginOfTexts : Option Login → Type 0
+IsLoginOfTexts None = Unit {0}
+IsLoginOfTexts (Some login) = IsText login.name × IsText login.password
 
 -- a name and a password, of which each may be null
 abbrev pub Credentials : Type 0

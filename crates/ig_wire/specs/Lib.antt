@@ -9,3 +9,4 @@ pub mod Heads
 pub mod ReadAnswers
 pub mod HeadAnswers
 pub mod Profiles
+pub mod Laws
