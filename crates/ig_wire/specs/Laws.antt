@@ -25,7 +25,7 @@ OneGreeting = (highest : Version) (body : List ℕ) (answer : Result Hello Hello
 -- a hello that was written is accepted where its version is, and says whether a login was given
 abbrev pub WrittenHelloIsRead : Type 0
 WrittenHelloIsRead =
-    (highest v : Version) (login : Option Login) → is_accepted highest v ≡ true → MayLogin v login → IsLoginOfTexts login
+    (highest v : Version) (login : Option Login) → IsVersion v → is_accepted highest v ≡ true → MayLogin v login → IsLoginOfTexts login
     → greeting highest (hello_bytes v login) ≡ Ok (record { version = v; credentials = is_some login })
 
 -- no two hellos have the same bytes

@@ -10,3 +10,5 @@ pub mod ReadAnswers
 pub mod HeadAnswers
 pub mod Profiles
 pub mod Laws
+pub mod Operations
+pub mod Reasons

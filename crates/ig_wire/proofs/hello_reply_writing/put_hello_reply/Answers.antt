@@ -1,4 +1,4 @@
-use Rattle.std.proofs.Common.{◌≡◌, ◌∙◌, ap, List, ℕ, ◌++◌, None, arith, sym, subst}
+use Rattle.std.proofs.Common.{◌≡◌, ◌∙◌, ap, List, ℕ, ◌+◌, ◌++◌, None, arith, sym, subst}
 use Rattle.ig_base.specs.Frames.{Frame}
 use Rattle.ig_wire.specs.HelloReplies.{HasNoCode, hello_reply_bytes}
 use Rattle.ig_wire.specs.declared.hello_reply.HelloReply.{HelloReply}
