@@ -270,6 +270,10 @@ credentials_of login = credentials_with (Some login.name) (Some login.password)
 abbrev read_of : Credentials → Field Credentials
 read_of x = Ok (x, [])
 
+abbrev text_in : Option (List ℕ) → List ℕ
+text_in None = []
+text_in (Some text) = text
+
 abbrev some_login : List ℕ → List ℕ → Option Login
 some_login name password = Some (record { name = name; password = password })
 
@@ -283,9 +287,9 @@ login_apart None (Some b) x y e = absurd cc
 login_apart (Some a) None x y e = absurd cc
 login_apart (Some a) (Some b) x y e =
     let same : read_of (credentials_of a) ≡ read_of (credentials_of b) = sym (login_written a x) ∙ ap login_of e ∙ login_written b y in
-    let parts : credentials_of a ≡ credentials_of b = cc in
-    let names : a.name ≡ b.name = cc in
-    let passwords : a.password ≡ b.password = cc in
+    let parts : credentials_of a ≡ credentials_of b = ap (λ (z : Credentials × List ℕ). z.0) (ok_is (credentials_of a, []) (credentials_of b, []) same) in
+    let names : a.name ≡ b.name = ap (λ (x : Credentials). text_in x.0) parts in
+    let passwords : a.password ≡ b.password = ap (λ (x : Credentials). text_in x.1) parts in
     ap (λ (l : List ℕ). some_login l a.password) names ∙ ap (λ (l : List ℕ). some_login b.name l) passwords
 
 pub hello_apart : (v w : Version) (a b : Option Login) → IsVersion v → IsVersion w → IsLoginOfTexts a → IsLoginOfTexts b → hello_bytes v a ≡ hello_bytes w b → (v ≡ w) × (a ≡ b)

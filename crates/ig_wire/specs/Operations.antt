@@ -1,47 +1,49 @@
 -- The table of the operations: the code and the name of each, and the first version that has it.
-use Rattle.std.specs.Prelude.{ℕ, ℤ, pos, List, [], ◌∷◌, Option, codes}
+use Rattle.std.specs.Prelude.{ℕ, ℤ, pos, negsuc, List, [], ◌∷◌, Option, None, ◌==◌, codes}
 use Rattle.std.specs.List.{find}
-use Rattle.std.specs.Ordering.{int_eq}
 use Rattle.ig_wire.specs.Versions.{version_1_0, version_1_4}
 use Rattle.ig_wire.specs.declared.version.Version.{Version}
 use Rattle.ig_wire.specs.declared.operation.Operation.{Operation}
 use Rattle.ig_wire.specs.declared.operation.Operation.TheVariants as operation
 
--- an Int16
+abbrev pub operation_number : Operation → ℕ
+operation_number operation.CloseResource = 0
+operation_number operation.Get = 1000
+operation_number operation.Put = 1001
+operation_number operation.PutIfAbsent = 1002
+operation_number operation.GetAll = 1003
+operation_number operation.PutAll = 1004
+operation_number operation.GetAndPut = 1005
+operation_number operation.GetAndReplace = 1006
+operation_number operation.GetAndRemove = 1007
+operation_number operation.GetAndPutIfAbsent = 1008
+operation_number operation.Replace = 1009
+operation_number operation.ReplaceIfEquals = 1010
+operation_number operation.ContainsKey = 1011
+operation_number operation.ContainsKeys = 1012
+operation_number operation.Clear = 1013
+operation_number operation.ClearKey = 1014
+operation_number operation.ClearKeys = 1015
+operation_number operation.RemoveKey = 1016
+operation_number operation.RemoveIfEquals = 1017
+operation_number operation.RemoveKeys = 1018
+operation_number operation.RemoveAll = 1019
+operation_number operation.GetSize = 1020
+operation_number operation.CacheNames = 1050
+operation_number operation.Create = 1051
+operation_number operation.GetOrCreate = 1052
+operation_number operation.Destroy = 1056
+operation_number operation.PartitionMaps = 1101
+operation_number operation.Scan = 2000
+operation_number operation.NextPage = 2001
+operation_number operation.GetTypeName = 3000
+operation_number operation.RegisterTypeName = 3001
+operation_number operation.GetType = 3002
+operation_number operation.PutType = 3003
+
+-- its code, an Int16
 abbrev pub operation_code : Operation → ℤ
-operation_code operation.CloseResource = pos 0
-operation_code operation.Get = pos 1000
-operation_code operation.Put = pos 1001
-operation_code operation.PutIfAbsent = pos 1002
-operation_code operation.GetAll = pos 1003
-operation_code operation.PutAll = pos 1004
-operation_code operation.GetAndPut = pos 1005
-operation_code operation.GetAndReplace = pos 1006
-operation_code operation.GetAndRemove = pos 1007
-operation_code operation.GetAndPutIfAbsent = pos 1008
-operation_code operation.Replace = pos 1009
-operation_code operation.ReplaceIfEquals = pos 1010
-operation_code operation.ContainsKey = pos 1011
-operation_code operation.ContainsKeys = pos 1012
-operation_code operation.Clear = pos 1013
-operation_code operation.ClearKey = pos 1014
-operation_code operation.ClearKeys = pos 1015
-operation_code operation.RemoveKey = pos 1016
-operation_code operation.RemoveIfEquals = pos 1017
-operation_code operation.RemoveKeys = pos 1018
-operation_code operation.RemoveAll = pos 1019
-operation_code operation.GetSize = pos 1020
-operation_code operation.CacheNames = pos 1050
-operation_code operation.Create = pos 1051
-operation_code operation.GetOrCreate = pos 1052
-operation_code operation.Destroy = pos 1056
-operation_code operation.PartitionMaps = pos 1101
-operation_code operation.Scan = pos 2000
-operation_code operation.NextPage = pos 2001
-operation_code operation.GetTypeName = pos 3000
-operation_code operation.RegisterTypeName = pos 3001
-operation_code operation.GetType = pos 3002
-operation_code operation.PutType = pos 3003
+operation_code o = pos (operation_number o)
 
 abbrev pub operation_name : Operation → List ℕ
 operation_name operation.CloseResource = codes "close resource"
@@ -90,4 +92,5 @@ operations =
 
 -- the operation with this code, if there is one
 abbrev pub operation_at : ℤ → Option Operation
-operation_at code = find (λ o. int_eq (operation_code o) code) operations
+operation_at (pos n) = find (λ o. operation_number o == n) operations
+operation_at (negsuc n) = None

@@ -48,6 +48,9 @@ impl Operation {
     pub fn of(code: i16) -> Option<Operation>
         ensures { result ≡ operation_at code }
     {
+        let Ok(code) = u16::try_from(code) else {
+            return None;
+        };
         Some(match code {
             0 => Operation::CloseResource,
             1000 => Operation::Get,
