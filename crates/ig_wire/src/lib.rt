@@ -41,3 +41,6 @@ pub use operation::Operation;
 pub use reason::Reason;
 pub use unread::{ReadFault, Unread};
 pub use version::Version;
+
+#[cfg(test)]
+mod tests;
