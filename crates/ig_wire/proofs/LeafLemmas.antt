@@ -23,7 +23,7 @@ use Rattle.ig_value.proofs.ItemLemmas.{optional_agrees}
 use Rattle.ig_value.proofs.ScalarLemmas.{scalar_agrees}
 use Rattle.ig_value.proofs.CountLemmas.{counted_agrees, text_run_agrees}
 use Rattle.ig_value.proofs.PartLemmas.{part_agrees}
-use Rattle.ig_wire.specs.TextAnswers.{text_reading}
+use Rattle.ig_decode.specs.TextAnswers.{text_reading}
 use Rattle.ig_wire.specs.Fields.{string, nullable_string, IsText, IsNullableText, IsNumber, IsString, IsNullableString, IsNodeObject, IsShort, IsOtherByte, StopsObject, StopsString, StopsNullableString, StopsNode, Field, placed, number_field, number_of, object_of, string_of, nullable_string_of, node_of}
 use Rattle.ig_wire.proofs.AgreeLemmas.{Halts, Halted, IsRead, placed_read, same_read, same_stop, by_reader, ok_is, err_is}
 

@@ -14,7 +14,7 @@ use Rattle.ig_value.specs.Spells.{IsScalar}
 use Rattle.ig_value.specs.Stops.{StopsScalar, StopsBoth, StopsTextRun, StopsCounted, StopsCoded, StopsOptional}
 use Rattle.ig_value.specs.Canon.{counted_bytes, optional_bytes, uuid_bytes}
 use Rattle.ig_value.specs.Reading.{Read, counted_at, text_run_at, optional_at, uuid_at}
-use Rattle.ig_wire.specs.TextAnswers.{text_reading}
+use Rattle.ig_decode.specs.TextAnswers.{text_reading}
 
 -- ---- spelling
 

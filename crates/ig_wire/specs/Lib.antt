@@ -1,7 +1,6 @@
 pub mod Versions
 pub mod Fields
 pub mod FieldAnswers
-pub mod TextAnswers
 pub mod HelloFaults
 pub mod Greets
 pub mod HelloReplies

@@ -20,8 +20,6 @@ mod put;
 mod read_error;
 mod reason;
 mod stop;
-mod text_refusal;
-mod text_at;
 mod unread;
 mod version;
 
