@@ -1,0 +1,13 @@
+pub mod Versions
+pub mod Fields
+pub mod FieldAnswers
+pub mod HelloFaults
+pub mod Greets
+pub mod HelloReplies
+pub mod Heads
+pub mod ReadAnswers
+pub mod HeadAnswers
+pub mod Profiles
+pub mod Laws
+pub mod Operations
+pub mod Reasons

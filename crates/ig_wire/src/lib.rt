@@ -1,0 +1,44 @@
+//! The words that both ends share.
+#![tactic(auto)]
+
+mod ask;
+mod fields;
+mod greeting;
+mod head;
+mod head_calls;
+mod head_writing;
+mod hello;
+mod hello_reply;
+mod hello_reply_calls;
+mod hello_reply_writing;
+mod hello_writing;
+mod laws;
+mod limits;
+mod operation;
+mod owned;
+mod put;
+mod read_error;
+mod reason;
+mod stop;
+mod unread;
+mod version;
+
+pub use ask::{ASK_HEAD, AskFault, Profile, read_ask};
+pub use greeting::{HELLO, LEAST_HELLO, THIN_CLIENT, read_hello};
+pub use head::{Fault, ReplyHead};
+pub use head_calls::{ERROR, TOPOLOGY, read_head};
+pub use head_writing::write_head;
+pub use hello::{Hello, HelloFault, Login};
+pub use hello_reply::HelloReply;
+pub use hello_reply_calls::{LEAST_HELLO_REPLY, read_hello_reply};
+pub use hello_reply_writing::write_hello_reply;
+pub use hello_writing::write_hello;
+pub use laws::{one_greeting, one_head, one_hello_reply};
+pub use limits::{CACHE_CHANGES, CACHES, OPEN_CURSORS, PENDING_CALLS, PIECE, SESSION_BYTES};
+pub use operation::Operation;
+pub use reason::Reason;
+pub use unread::{ReadFault, Unread};
+pub use version::Version;
+
+#[cfg(test)]
+mod tests;
