@@ -287,7 +287,7 @@ fn an_input_that_breaks_off_has_status_4(rt: HostRuntime) -> Result<(), Fail> {
 }
 
 /// A value of each code, and some in one another.
-static VALUES: [&str; 42] = [
+static VALUES: [&str; 46] = [
     "01 FF",
     "02 0180",
     "03 000000 80",
@@ -327,6 +327,10 @@ static VALUES: [&str; 42] = [
     "24 0100000000000000",
     "25 02000000 65 24 0200000000000000",
     "26 05000000 07000000",
+    "67 01 0B00 70000000 FD64E101 22000000 E4D3E1F5 1D000000 0305000000 61000000 18",
+    "67 01 0100 70000000 01000000 18000000 00000000 00000000",
+    "67 01 2B00 559BE3C4 C9CC9432 27000000 05A90074 25000000 0903000000416E6E 031E000000 18 20",
+    "18 01000000 01 67 01 0100 70000000 01000000 18000000 00000000 00000000",
     "09 01000000 62",
     "03 61000000",
     "02 6100",
@@ -350,9 +354,32 @@ fn values_come_back_as_they_were_stored(rt: HostRuntime) -> Result<(), Fail> {
     check(&rt, &client, &server, 0)
 }
 
+/// An object of type 112 with the field 97, encoded canonically and with an offset of two bytes.
+static SPELLINGS: [&str; 2] = [
+    "67 01 0B00 70000000 FD64E101 22000000 E4D3E1F5 1D000000 0305000000 61000000 18",
+    "67 01 1300 70000000 00000000 23000000 E4D3E1F5 1D000000 0305000000 61000000 1800",
+];
+
+#[test]
+fn a_key_that_is_encoded_in_another_way_finds_its_row(rt: HostRuntime) -> Result<(), Fail> {
+    let canonical = bytes(rt.alloc(), SPELLINGS[0])?;
+    let other = bytes(rt.alloc(), SPELLINGS[1])?;
+    let mut client = Stream::client(rt.alloc())?;
+    let mut server = Stream::server(rt.alloc())?;
+    client.put(1, canonical.as_slice(), &int(5))?;
+    server.done(1)?;
+    client.get(2, other.as_slice())?;
+    server.found(2, &int(5))?;
+    client.put(3, other.as_slice(), other.as_slice())?;
+    server.done(3)?;
+    client.get(4, canonical.as_slice())?;
+    server.found(4, canonical.as_slice())?;
+    check(&rt, &client, &server, 0)
+}
+
 /// Fields that don't read: the operation, what follows the identifier, and the offset in the frame at
 /// which they stop being fields.
-static MALFORMED: [(i16, &str, usize); 16] = [
+static MALFORMED: [(i16, &str, usize); 18] = [
     (GET, "", 14),
     (GET, "B90533", 14),
     (GET, "B9053300", 18),
@@ -360,6 +387,16 @@ static MALFORMED: [(i16, &str, usize); 16] = [
     (GET, "B9053300 00 03 010000", 20),
     (GET, "B9053300 00 66", 19),
     (GET, "B9053300 00 67 01 0B00", 19),
+    (
+        GET,
+        "B9053300 00 67 01 0B00 70000000 FD64E101 22000000 E4D3E1F5 1D000000 0305000000 61000000 19",
+        52,
+    ),
+    (
+        GET,
+        "B9053300 00 67 01 0B00 70000000 FD64E101 22000000 E4D3E1F5 1D000000 0405000000 61000000 18",
+        44,
+    ),
     (GET, "B9053300 00 08 02", 20),
     (GET, "B9053300 00 09 FFFFFFFF", 20),
     (GET, "B9053300 00 0C FFFFFF7F 00", 25),
