@@ -160,10 +160,10 @@ begins_hello (a ∷ b ∷ c ∷ d ∷ e ∷ f ∷ g ∷ h ∷ tail) bytes long f
     let version : Version = version_with (short_of (b ∷ c ∷ [])) (short_of (d ∷ e ∷ [])) (short_of (f ∷ g ∷ [])) in
     let begins : BeginsHello body version h tail = record {
       whole = ap (λ (n : ℕ). n ∷ b ∷ c ∷ d ∷ e ∷ f ∷ g ∷ h ∷ tail) first ∙ ap (λ (l : List ℕ). 1 ∷ l) (
-        ap (λ (l : List ℕ). l ++ (d ∷ e ∷ f ∷ g ∷ h ∷ tail)) major.1
-        ∙ ap (λ (l : List ℕ). LE w16 version.major ++ (l ++ (f ∷ g ∷ h ∷ tail))) minor.1
-        ∙ ap (λ (l : List ℕ). LE w16 version.major ++ (LE w16 version.minor ++ (l ++ (h ∷ tail)))) patch.1
-        ∙ regrouped (LE w16 version.major) (LE w16 version.minor) (LE w16 version.patch) h tail);
+          ap (λ (l : List ℕ). l ++ (d ∷ e ∷ f ∷ g ∷ h ∷ tail)) major.1
+          ∙ ap (λ (l : List ℕ). LE w16 version.major ++ (l ++ (f ∷ g ∷ h ∷ tail))) minor.1
+          ∙ ap (λ (l : List ℕ). LE w16 version.major ++ (LE w16 version.minor ++ (l ++ (h ∷ tail)))) patch.1
+          ∙ regrouped (LE w16 version.major) (LE w16 version.minor) (LE w16 version.patch) h tail);
       numbers = record { major = major.0; minor = minor.0; patch = patch.0 };
     } in
     subst (λ (v : Version). BeginsHello body v h tail) (sym (read_version body long)) begins

@@ -28,8 +28,10 @@ MadeVersion = IsThen (IsNumber w16) (λ major. IsThen (IsNumber w16) (λ minor. 
 version_forth : (s : List ℕ) (v : Version) → MadeVersion s v → IsVersionField s v
 version_forth s v h =
     let m = h.next in
-    rw m.next.is (record { major = h.right.0; minor = m.right.0; patch = m.next.right.0 },
-    h.whole ∙ rw (h.right.1, m.whole, m.right.1, m.next.right.1) (sym (append_assoc (LE w16 h.first) (LE w16 m.first) (LE w16 m.next.part))))
+    rw m.next.is (
+      record { major = h.right.0; minor = m.right.0; patch = m.next.right.0 },
+      h.whole ∙ rw (h.right.1, m.whole, m.right.1, m.next.right.1) (sym (append_assoc (LE w16 h.first) (LE w16 m.first) (LE w16 m.next.part))),
+    )
 
 version_back : (s : List ℕ) (v : Version) → IsVersionField s v → MadeVersion s v
 version_back s v h = record {
@@ -183,6 +185,7 @@ acceptance_read false = record {
   alone_halts : (s : List ℕ) (left : ℕ) → AreBytes s → acceptance_of false s ≡ Err left → Halts IsLeftOver s left
   alone_halts [] left bytes e = absurd cc
   alone_halts (b ∷ s) left bytes e = let f : suc (length s) ≡ left = err_is {A = HelloReply} (suc (length s)) left e in record { at = 0; there = omega (arith, f); wrong = record { some = some_bytes b s; here = refl } }
+
   alone_halted : (s : List ℕ) (at : ℕ) → IsLeftOver s at → (left : ℕ) × (left + at ≡ length s) × (acceptance_of false s ≡ Err left)
   alone_halted [] at w = absurd (w.some refl)
   alone_halted (b ∷ s) at w = (suc (length s), omega (arith, w.here), refl)
@@ -205,8 +208,10 @@ refusal_forth : (v : Version) (s : List ℕ) (reply : HelloReply) → MadeRefusa
 refusal_forth v s reply h =
     let t = h.next in
     let n = t.next in
-    rw n.is ((h.right.0, t.right.0, n.right.0),
-    ap (λ (l : List ℕ). 0 ∷ l) (h.whole ∙ rw (h.right.1, t.whole, t.right.1, n.right.1) (sym (append_assoc (version_bytes h.first) (string t.first) (code_bytes n.part)))))
+    rw n.is (
+      (h.right.0, t.right.0, n.right.0),
+      ap (λ (l : List ℕ). 0 ∷ l) (h.whole ∙ rw (h.right.1, t.whole, t.right.1, n.right.1) (sym (append_assoc (version_bytes h.first) (string t.first) (code_bytes n.part)))),
+    )
 
 reply_forth : (v : Version) (s : List ℕ) (reply : HelloReply) → IsThen IsVerdict (MadeAfter v) s reply → IsReplyField v s reply
 reply_forth v s reply h = by_verdict h.first h.right h.next where

@@ -33,8 +33,8 @@ is_same a b = int_eq a.major b.major && (int_eq a.minor b.minor && int_eq a.patc
 abbrev pub is_up_to : Version → Version → Bool
 is_up_to a b =
     if int_eq a.major b.major then (if int_eq a.minor b.minor then int_le a.patch b.patch else int_lt a.minor b.minor) else int_lt a.major b.major where
-  int_le : ℤ → ℤ → Bool
-  int_le x y = int_eq x y || int_lt x y
+      int_le : ℤ → ℤ → Bool
+      int_le x y = int_eq x y || int_lt x y
 
 abbrev pub is_spoken : Version → Bool
 is_spoken v = is_same v version_1_0 || (is_same v version_1_1 || is_same v version_1_4)

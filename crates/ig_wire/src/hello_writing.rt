@@ -1,8 +1,9 @@
 //! Writes hellos.
 
-ghost use Rattle.std.specs.Prelude.{◌≡◌, ◌≤◌, ◌<◌, ◌+◌, ◌^◌, ◌++◌, length, OnOk, OnErr};
+ghost use Rattle.std.specs.Prelude.{◌≡◌, ◌≤◌, ◌++◌, length, min, OnOk, OnErr};
 ghost use Rattle.std.specs.Option.{option_copied};
 ghost use Rattle.ig_base.specs.Frames.{Frame, max_body};
+ghost use Rattle.ig_wire.specs.declared.version.Version.{Version};
 ghost use Rattle.ig_wire.specs.Greets.{MayLogin, hello_bytes, hello_start, thin_client};
 
 use crate::greeting::{HELLO, LEAST_HELLO, THIN_CLIENT};
@@ -11,6 +12,21 @@ use crate::put::{put_len, put_string, put_version, string_len};
 use crate::version::Version;
 use ig_base::{NoMemory, Octets};
 use std::alloc::Global;
+
+/// The length of a hello's body. Saturates.
+pub fn hello_len(login: Option<&Login>) -> usize
+    ensures { (v : Version) → result
+        ≡ min (length (hello_bytes v (option_copied login.entry))) usize.MAX }
+{
+    match login {
+        None => LEAST_HELLO as usize,
+        Some(login) => {
+            let name = string_len(login.name.as_str());
+            let password = string_len(login.password.as_str());
+            (LEAST_HELLO as usize + name).saturating_add(password)
+        }
+    }
+}
 
 /// Appends the frame of a hello. On an error the bytes are as before.
 pub fn write_hello(
