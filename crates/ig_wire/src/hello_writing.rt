@@ -1,9 +1,8 @@
 //! Writes hellos.
 
-ghost use Rattle.std.specs.Prelude.{◌≡◌, ◌≤◌, ◌++◌, length, min, OnOk, OnErr};
+ghost use Rattle.std.specs.Prelude.{◌≡◌, ◌≤◌, ◌++◌, length, OnOk, OnErr};
 ghost use Rattle.std.specs.Option.{option_copied};
 ghost use Rattle.ig_base.specs.Frames.{Frame, max_body};
-ghost use Rattle.ig_wire.specs.declared.version.Version.{Version};
 ghost use Rattle.ig_wire.specs.Greets.{MayLogin, hello_bytes, hello_start, thin_client};
 
 use crate::greeting::{HELLO, LEAST_HELLO, THIN_CLIENT};
@@ -13,17 +12,16 @@ use crate::version::Version;
 use ig_base::{NoMemory, Octets};
 use std::alloc::Global;
 
-/// The length of a hello's body. Saturates.
-pub fn hello_len(login: Option<&Login>) -> usize
-    ensures { (v : Version) → result
-        ≡ min (length (hello_bytes v (option_copied login.entry))) usize.MAX }
+/// The length of a hello's body, which is the same at each version.
+pub fn hello_len(_version: Version, login: Option<&Login>) -> u128
+    ensures { result ≡ length (hello_bytes _version (option_copied login.entry)) }
 {
     match login {
-        None => LEAST_HELLO as usize,
+        None => LEAST_HELLO as u128,
         Some(login) => {
-            let name = string_len(login.name.as_str());
-            let password = string_len(login.password.as_str());
-            (LEAST_HELLO as usize + name).saturating_add(password)
+            let name = string_len(login.name.as_str()) as u128;
+            let password = string_len(login.password.as_str()) as u128;
+            LEAST_HELLO as u128 + name + password
         }
     }
 }

@@ -169,9 +169,17 @@ fn login_answer(body: &[u8]) -> Result<bool, usize> {
     }
 }
 
+/// The body of this row.
+fn hello_at(row: usize) -> &'static [u8] {
+    match HELLOS.get(row) {
+        Some((body, _)) => body,
+        None => &[],
+    }
+}
+
 /// The first cut of this row that is answered otherwise.
 fn first_wrong_cut(row: usize, cuts: &[Result<bool, usize>]) -> Option<usize> {
-    let body = HELLOS.get(row).map_or(&[], |hello| hello.0);
+    let body = hello_at(row);
     cuts.iter().zip(8..=body.len()).position(|(wanted, end)| login_answer(
         body.get(..end).unwrap_or(&[]),
     ) != *wanted)
@@ -181,10 +189,7 @@ fn first_wrong_cut(row: usize, cuts: &[Result<bool, usize>]) -> Option<usize> {
 #[test]
 fn cut_after_every_byte(rt: HostRuntime) -> Result<(), Fail> {
     for (row, cuts) in &CUTS {
-        assert_eq!(rt;
-            HELLOS.get(*row).map_or(0, |hello| hello.0.len()),
-            7 + cuts.len()
-        );
+        assert_eq!(rt; hello_at(*row).len(), 7 + cuts.len());
         assert_eq!(rt; first_wrong_cut(*row, cuts), None);
     }
     Ok(())
@@ -204,7 +209,7 @@ fn is_frame(bytes: &[u8], length: u8, body: &[u8]) -> bool {
 #[test]
 fn hellos_are_written(rt: HostRuntime) -> Result<(), Fail> {
     let mut out = Octets::empty(rt.alloc());
-    assert_eq!(rt; hello_len(None), 8);
+    assert_eq!(rt; hello_len(Version::V1_0_0, None), 8);
     write_hello(rt.alloc(), Version::V1_0_0, None, &mut out)?;
     assert!(rt; out.as_slice() == [8, 0, 0, 0, 1, 1, 0, 0, 0, 0, 0, 2].as_slice());
     let login = Login {
@@ -212,7 +217,7 @@ fn hellos_are_written(rt: HostRuntime) -> Result<(), Fail> {
         password: text(rt.alloc(), "p")?,
     };
     out.clear();
-    assert_eq!(rt; hello_len(Some(&login)), 20);
+    assert_eq!(rt; hello_len(Version::V1_1_0, Some(&login)), 20);
     write_hello(rt.alloc(), Version::V1_1_0, Some(&login), &mut out)?;
     assert!(rt; is_frame(out.as_slice(), 20, HELLOS[3].0));
     Ok(())
