@@ -1,12 +1,12 @@
 -- A reader of fields, the bytes that it reads, and where they stop: how each way of putting fields
 -- together keeps their agreement.
-use Rattle.std.proofs.Common.{◌≡◌, ℕ, zero, suc, ◌+◌, ◌-◌, ◌≤◌, List, [], ◌∷◌, ◌++◌, length, take, drop, ◌≢◌, Result, Ok, Err, refl, sym, ap, subst, ◌∙◌, append_assoc, append-nil, arith, inl, inr, length-append, ◌⊎◌}
+use Rattle.std.proofs.Common.{◌≡◌, ℕ, suc, ◌+◌, ◌-◌, ◌≤◌, List, [], ◌∷◌, ◌++◌, length, drop, ◌≢◌, Result, Ok, Err, refl, sym, ap, subst, ◌∙◌, append_assoc, append-nil, arith, inl, inr, length-append, ◌⊎◌}
 use Rattle.std.proofs.lemmas.List.{drop_at}
 use Rattle.ig_base.specs.Numbers.{AreBytes}
 use Rattle.ig_value.specs.declared.Cause.{Cause}
-use Rattle.ig_value.specs.Reading.{Fault, Read}
+use Rattle.ig_value.specs.Reading.{Read}
 use Rattle.ig_value.proofs.AgreesLemmas.{Takes, Agrees, AreBytes-suffix}
-use Rattle.ig_wire.specs.Fields.{IsLeftOver, StopsAfter, StopsThen, Field, ◌>>=◌, placed, whole}
+use Rattle.ig_wire.specs.Fields.{IsLeftOver, StopsThen, Field, ◌>>=◌, placed, whole}
 
 -- the value of a step that did not fail
 pub bind_ok : {A B : Type 0} (r : Result A ℕ) (f : A → Result B ℕ) (y : B) → (r >>= f) ≡ Ok y → (x : A) × (r ≡ Ok x) × (f x ≡ Ok y)

@@ -1,5 +1,5 @@
 -- The heads of replies are read as they are spelled.
-use Rattle.std.proofs.Common.{◌≡◌, ◌≢◌, ℕ, zero, suc, ◌+◌, ◌<◌, ◌≤◌, ℤ, pos, negsuc, Bool, true, false, List, [], ◌∷◌, ◌++◌, length, take, drop, Option, None, Some, Result, Ok, Err, refl, sym, ap, subst, ◌∙◌, arith, inl, inr, ◌⊎◌, append-nil, append_assoc}
+use Rattle.std.proofs.Common.{◌≡◌, ◌≢◌, ℕ, ℤ, pos, Bool, true, false, List, [], ◌++◌, length, Option, None, Some, Ok, Err, refl, sym, ap, subst, ◌∙◌, arith, inl, inr, append-nil, append_assoc}
 use Rattle.std.specs.Prelude.{FitsSigned, is_some}
 use Rattle.std.specs.Ordering.{int_eq}
 use Rattle.std.specs.Int.{w16, w32, w64}
@@ -9,12 +9,12 @@ use Rattle.ig_base.specs.Numbers.{LE, AreBytes}
 use Rattle.ig_base.specs.declared.Topology.{Topology}
 use Rattle.ig_value.proofs.AgreesLemmas.{Takes}
 use Rattle.ig_wire.specs.Versions.{has_flags}
-use Rattle.ig_wire.specs.Fields.{string, IsText, IsNumber, IsString, IsShort, StopsString, StopsThen, Field, ◌>>=◌, number_of, string_of}
+use Rattle.ig_wire.specs.Fields.{string, IsNumber, IsString, IsShort, StopsString, StopsThen, Field, ◌>>=◌, number_of, string_of}
 use Rattle.ig_wire.specs.Heads.{flag_number, topology_bytes, fault_bytes, told_bytes, head_bytes, IsTopology, IsFault, MayTell, IsHead, IsFlags, StopsFlags, IsTopologyField, StopsTopology, IsFaultField, StopsFault, StopsStatus, StopsTold, StopsHead, Told, fault_after, fault_of, topology_of, parts_of, known_flags, flags_of, status_of, told_of, head_of}
 use Rattle.ig_wire.specs.declared.version.Version.{Version}
 use Rattle.ig_wire.specs.declared.head.Fault.{Fault}
 use Rattle.ig_wire.specs.declared.head.ReplyHead.{ReplyHead}
-use Rattle.ig_wire.proofs.AgreeLemmas.{Halts, Halted, IsRead, IsThen, IsMade, then_read, made_read, same_read, same_stop, by_reader, nothing_read, bind_ok, bind_err, ok_is, err_is}
+use Rattle.ig_wire.proofs.AgreeLemmas.{Halts, Halted, IsRead, IsThen, IsMade, then_read, made_read, same_read, nothing_read, bind_ok, bind_err, ok_is, err_is}
 use Rattle.ig_wire.proofs.LeafLemmas.{i16_read, i32_read, i64_read, string_read}
 
 -- ---- flags

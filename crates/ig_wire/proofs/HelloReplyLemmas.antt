@@ -1,15 +1,14 @@
 -- The replies to hellos are read as they are spelled.
-use Rattle.std.proofs.Common.{◌≡◌, ◌≢◌, ℕ, zero, suc, ◌+◌, ◌<◌, ◌≤◌, ℤ, Bool, true, false, List, [], ◌∷◌, ◌++◌, length, Option, None, Some, Result, Ok, Err, refl, sym, ap, subst, ◌∙◌, arith, inl, inr, ◌⊎◌, append-nil, append_assoc}
-use Rattle.std.specs.Prelude.{FitsSigned, ◌==◌}
+use Rattle.std.proofs.Common.{◌≡◌, ◌≢◌, ℕ, zero, suc, ◌+◌, ◌<◌, ℤ, Bool, true, false, List, [], ◌∷◌, ◌++◌, length, Option, None, Some, Result, Ok, Err, refl, sym, ap, subst, ◌∙◌, arith, inl, inr, append_assoc}
 use Rattle.std.specs.Int.{w16, w32}
-use Rattle.std.proofs.lemmas.Bool.{ne_eqb, eq-eqb, cases_eq}
+use Rattle.std.proofs.lemmas.Bool.{ne_eqb}
 use Rattle.std.proofs.lemmas.List.{nil_from_length}
 use Rattle.ig_base.specs.Numbers.{LE, AreBytes}
 use Rattle.ig_base.specs.declared.NodeId.{NodeId}
 use Rattle.ig_base.proofs.NumberLemmas.{length-LE_32}
 use Rattle.ig_value.proofs.AgreesLemmas.{Takes}
-use Rattle.ig_wire.specs.Versions.{version_bytes, IsVersion, has_flags}
-use Rattle.ig_wire.specs.Fields.{string, IsText, IsNode, IsNumber, IsString, IsNodeObject, IsShort, IsOtherByte, IsLeftOver, StopsString, StopsNode, StopsThen, Field, ◌>>=◌, number_of, string_of, node_of, whole}
+use Rattle.ig_wire.specs.Versions.{version_bytes, has_flags}
+use Rattle.ig_wire.specs.Fields.{string, IsNumber, IsString, IsNodeObject, IsShort, IsLeftOver, StopsString, StopsNode, StopsThen, ◌>>=◌, number_of, string_of, node_of, whole}
 use Rattle.ig_wire.specs.HelloReplies.{node_bytes, code_bytes, hello_reply_bytes, TellsNode, IsCode, IsHelloReply, IsVerdict, StopsVerdict, IsVersionField, StopsVersion, StopsCode, StopsRefusal, StopsAcceptance, StopsAfterVerdict, StopsHelloReply, version_of, code_of, refusal_of, verdict_of, acceptance_of, reply_after, hello_reply_of}
 use Rattle.ig_wire.specs.declared.version.Version.{Version}
 use Rattle.ig_wire.specs.declared.hello_reply.HelloReply.{HelloReply}

@@ -1,14 +1,14 @@
 -- Lemmas on writing messages.
-use Rattle.std.proofs.Common.{◌≡◌, ℕ, ◌+◌, ◌<◌, ◌^◌, ℤ, pos, List, [], ◌∷◌, ◌++◌, length, take, drop, Option, Some, None, Result, Ok, Err, refl, sym, ap, ◌∙◌, arith, append_assoc, append-nil, length-append}
+use Rattle.std.proofs.Common.{◌≡◌, ℕ, ◌+◌, ℤ, pos, List, [], ◌∷◌, ◌++◌, length, drop, Option, Some, None, Result, Ok, Err, refl, sym, ap, ◌∙◌, arith, append_assoc, append-nil, length-append}
 use Rattle.std.specs.Prelude.{OnOk, FitsSigned}
-use Rattle.std.specs.Int.{w16, w32, w64, to_le_bytes}
+use Rattle.std.specs.Int.{w16, w32, w64}
 use Rattle.ig_base.specs.declared.NodeId.{NodeId}
 use Rattle.ig_base.specs.Numbers.{LE, number_at}
 use Rattle.ig_base.specs.Frames.{Frame}
-use Rattle.ig_base.proofs.NumberLemmas.{reads_16, reads_64, length-LE_16, length-LE_32, length-LE_64}
+use Rattle.ig_base.proofs.NumberLemmas.{reads_16, reads_64}
 use Rattle.ig_wire.specs.Versions.{version_bytes}
 use Rattle.ig_wire.specs.Fields.{string}
-use Rattle.ig_wire.specs.Greets.{hello_start, thin_client, login_bytes, hello_bytes}
+use Rattle.ig_wire.specs.Greets.{hello_start, thin_client, hello_bytes}
 use Rattle.ig_wire.specs.HelloReplies.{node_bytes, code_bytes, hello_reply_bytes, HasNoCode}
 use Rattle.ig_wire.specs.declared.version.Version.{Version}
 use Rattle.ig_wire.specs.declared.hello.Login.{Login}

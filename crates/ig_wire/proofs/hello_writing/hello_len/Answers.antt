@@ -1,4 +1,4 @@
-use Rattle.std.proofs.Common.{◌≡◌, ◌∙◌, ap, sym, ◌+◌, List, ℕ, length, arith}
+use Rattle.std.proofs.Common.{◌≡◌, ◌∙◌, ap, sym, List, ℕ, length, arith}
 use Rattle.ig_wire.specs.Fields.{string}
 use Rattle.ig_wire.proofs.WriteLemmas.{length-hello-none, length-hello-some}
 use Rattle.ig_wire.proofs.hello_writing.hello_len.Goals as goal

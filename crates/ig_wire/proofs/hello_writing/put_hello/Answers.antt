@@ -1,4 +1,4 @@
-use Rattle.std.proofs.Common.{◌≡◌, ◌∙◌, ap, ◌+◌, ◌++◌, List, ℕ, length, arith, sym}
+use Rattle.std.proofs.Common.{◌∙◌, ap, ◌+◌, ◌++◌, List, ℕ, length, arith}
 use Rattle.ig_wire.specs.Fields.{string}
 use Rattle.ig_wire.proofs.WriteLemmas.{on_ok, hello_framed, login_framed}
 use Rattle.ig_wire.proofs.hello_writing.put_hello.Goals as goal
