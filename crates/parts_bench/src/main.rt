@@ -70,7 +70,10 @@ fn ask_routes(rt: &(impl Clock + Eprint), routes: &Routes, asks: u64) -> Result<
         sum = sum.wrapping_add(numbered(routes.owner(CACHE, &key(n))?)?);
     }
     let nanos = start.elapsed(rt)?.as_nanos();
-    let picos = nanos.wrapping_mul(1000).checked_div(u128::from(asks)).unwrap_or(0);
+    let picos = nanos
+        .wrapping_mul(1000)
+        .checked_div(u128::from(asks))
+        .unwrap_or(0);
     eprintln!(rt; "routes {picos} ps a question")?;
     Ok(sum)
 }
