@@ -8,7 +8,7 @@
 ghost use Rattle.std.specs.Prelude.{IfOk};
 ghost use Rattle.ig_parts.specs.Owner.{HasParts};
 
-use anyhow::{Result, bail, ensure};
+use anyhow::{Context, Result, bail, ensure};
 use ig_base::{NodeId, Topology};
 use ig_parts::{PartMap, Routes, owner, served_map};
 use ig_value::Value;
@@ -78,24 +78,24 @@ fn ask_routes(rt: &(impl Clock + Eprint), routes: &Routes, asks: u64) -> Result<
     Ok(sum)
 }
 
-fn number(words: &[String], at: usize, default: u64) -> u64 {
-    match words.get(at) {
-        Some(word) => word.as_str().parse::<u64>().unwrap_or(default),
+fn number(words: &[String], at: usize, default: u64) -> Result<u64> {
+    Ok(match words.get(at) {
+        Some(word) => word.as_str().parse::<u64>().context("a number")?,
         None => default,
-    }
+    })
 }
 
 fn run(rt: &(impl Clock + Eprint + Print + AllocGlobal), words: &[String]) -> Result<()> {
-    let nodes = u32::try_from(number(words, 1, 4))?;
-    let parts = u32::try_from(number(words, 2, 1024))?;
-    let asks = number(words, 3, 10_000);
+    let nodes = u32::try_from(number(words, 1, 4)?)?;
+    let parts = u32::try_from(number(words, 2, 1024)?)?;
+    let asks = number(words, 3, 10_000)?;
     let start = Instant::now(rt)?;
     let map = make(rt.alloc(), nodes, parts)?;
     let made = start.elapsed(rt)?.as_nanos();
     let few = ask_map(rt, &map, asks / 1000)?;
     let start = Instant::now(rt)?;
     let Ok(routes) = Routes::new(rt.alloc(), map) else {
-        bail!("no memory");
+        bail!("out of memory");
     };
     let prepared = start.elapsed(rt)?.as_nanos();
     eprintln!(rt; "made {made} ns, prepared {prepared} ns")?;
