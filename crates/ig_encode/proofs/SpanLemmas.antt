@@ -1,15 +1,13 @@
 -- The parts of an object's canonical form.
-use Rattle.std.proofs.Common.{◌≡◌, ℕ, zero, suc, ◌+◌, ◌-◌, ◌*◌, ◌/◌, ◌%◌, ◌^◌, ◌<◌, ◌≤◌, ℤ, pos, Bool, true, false, cond, Some, List, [], ◌∷◌, ◌++◌, length, map, take, drop, get_or, ltb, refl, sym, ap, ◌∙◌, arith, lit<, append_assoc, length-append, length-take-le, None, Option}
+use Rattle.std.proofs.Common.{◌≡◌, ℕ, suc, ◌+◌, ◌/◌, ◌%◌, ◌^◌, ◌<◌, ℤ, pos, Bool, true, false, Some, List, [], ◌∷◌, ◌++◌, length, map, take, drop, get_or, ltb, refl, sym, ap, ◌∙◌, arith, append_assoc, length-append, length-take-le, None, Option}
 use Rattle.std.specs.Int.{Width, w8, w16, w32, cast_signed, cast_unsigned}
 use Rattle.std.specs.List.{flat_map}
-use Rattle.std.proofs.lemmas.Bool.{cases_Bool}
 use Rattle.std.proofs.lemmas.Int.{of_z-to_z}
 use Rattle.std.proofs.lemmas.List.{append-nil, take-append-drop}
 use Rattle.std.proofs.lemmas.Grind.{take_at_read, flat_map-append}
 use Rattle.ig_base.specs.Numbers.{LE}
 use Rattle.ig_base.specs.Hashes.{BytesHash, hash_after}
 use Rattle.ig_base.specs.Headers.{header_bytes}
-use Rattle.ig_base.proofs.HashLemmas.{hash_after-in_range}
 use Rattle.ig_base.specs.declared.header.Header.{Header}
 use Rattle.ig_value.specs.declared.object.Shape.{Shape}
 use Rattle.ig_value.specs.declared.object.Shape.TheVariants.{Named, Compact}
@@ -23,7 +21,7 @@ use Rattle.ig_encode.specs.declared.span.OffsetWidth.TheVariants.{One, Two, Four
 use Rattle.ig_encode.specs.declared.span.Offset.{Offset}
 use Rattle.ig_encode.specs.declared.span.Span.{Span}
 use Rattle.ig_encode.proofs.OutputLemmas.{Takes, TakesLonger, two}
-use Rattle.ig_encode.specs.MeasureOutput.{measure_after, measured_after, count_after, no_length, hashing_start, no_digest, digest_after, hashed_after, started, fresh_of, measured_empty, measured_longer}
+use Rattle.ig_encode.specs.MeasureOutput.{measure_after, measured_after, count_after, no_length, hashing_start, no_digest, hashed_after, started, fresh_of, measured_empty, measured_longer}
 use Rattle.ig_encode.specs.Spans.{type_of, least_width, offset_of, key_bytes, entry_bytes, field_offsets, canonical_header, field_footer, span_of, footer_of, entry_noted, flag_of}
 
 -- ---- numbers modulo 2^32

@@ -1,5 +1,5 @@
 -- The parts of an object's canonical form, and what a walk over its fields finds.
-use Rattle.std.specs.Prelude.{◌≡◌, ℕ, zero, suc, ◌+◌, ◌%◌, ◌^◌, ℤ, pos, nat_lt, List, [], ◌∷◌, ◌++◌, length, map, if◌then◌else◌, get_or}
+use Rattle.std.specs.Prelude.{ℕ, ◌+◌, ◌%◌, ◌^◌, ℤ, pos, nat_lt, List, [], ◌∷◌, ◌++◌, length, map, if◌then◌else◌, get_or}
 use Rattle.std.specs.Int.{Width, w8, w16, w32, cast_signed}
 use Rattle.std.specs.List.{flat_map}
 use Rattle.ig_base.specs.Numbers.{LE}

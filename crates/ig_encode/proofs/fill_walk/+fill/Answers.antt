@@ -1,4 +1,4 @@
-use Rattle.std.proofs.Common.{◌≡◌, ℕ, List, ◌++◌, length, sym, ap, ◌∙◌}
+use Rattle.std.proofs.Common.{List, length, sym, ap, ◌∙◌}
 use Rattle.std.specs.List.{flat_map}
 use Rattle.ig_value.specs.declared.value.Value.{Value}
 use Rattle.ig_value.specs.declared.value.Value.TheVariants as value

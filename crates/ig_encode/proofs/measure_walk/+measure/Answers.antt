@@ -1,12 +1,9 @@
-use Rattle.std.proofs.Common.{◌≡◌, ℕ, ◌+◌, List, ◌++◌, length, map, take, refl, sym, ap, ◌∙◌}
+use Rattle.std.proofs.Common.{length, refl, sym, ap, ◌∙◌}
 use Rattle.std.specs.List.{flat_map}
-use Rattle.ig_value.specs.declared.value.Value.{Value}
 use Rattle.ig_value.specs.declared.value.Value.TheVariants as value
-use Rattle.ig_value.specs.declared.object.Record.{Record}
 use Rattle.ig_value.specs.Canon.{Canon}
 use Rattle.ig_encode.specs.ListBytes.{pair_bytes}
 use Rattle.ig_encode.specs.MeasureOutput.{measure_after, fresh_of}
-use Rattle.ig_encode.specs.Spans.{span_of}
 use Rattle.ig_encode.proofs.CanonLemmas.{Canon_objects, Canon_enums, Canon_collection, Canon_map, Canon_object, typed_head, kinded_head}
 use Rattle.ig_encode.proofs.MeasureLemmas.{measure_none, measured_both, measured_more}
 use Rattle.ig_encode.proofs.SpanLemmas.{span_more, span_none, measure_two}

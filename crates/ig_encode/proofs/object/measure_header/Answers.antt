@@ -1,4 +1,4 @@
-use Rattle.std.proofs.Common.{◌≡◌, ℕ, suc, List, ◌∷◌, map, refl, sym, ap, ◌∙◌}
+use Rattle.std.proofs.Common.{ℕ, suc, List, ◌∷◌, map, refl, sym, ap, ◌∙◌}
 use Rattle.ig_encode.specs.declared.measure.Measure.{Measure}
 use Rattle.ig_base.specs.Headers.{header_bytes}
 use Rattle.ig_value.specs.Canon.{Canon}
