@@ -1,6 +1,6 @@
 //! The hashes that make identifiers of names, of complex objects and of their schemas.
 
-ghost use Rattle.std.specs.Prelude.{◌≡◌, ◌+◌, ◌*◌, ◌%◌, ◌^◌, ◌<◌, ◌≤◌, ◌++◌, ℕ, List, fold, length, IfOk, IfErr};
+ghost use Rattle.std.specs.Prelude.{◌≡◌, ◌+◌, ◌*◌, ◌%◌, ◌^◌, ◌<◌, ◌≤◌, ◌++◌, ◌∷◌, [], ℕ, List, fold, length, IfOk, IfErr};
 ghost use Rattle.std.specs.Int.{w32, cast_signed};
 ghost use Rattle.std.specs.Char.Escape.{encode_utf16};
 ghost use Rattle.std.specs.Str.{IsAscii, str_to_ascii_lowercase};
@@ -91,17 +91,63 @@ fn byte_after(hash: u32, byte: u8) -> u32
     unit_after(hash, i32::from(byte.cast_signed()).cast_unsigned())
 }
 
-/// The hash of a complex object's fields, given as their bytes: from 1, each signed byte in turn is
-/// added to 31 times the hash so far, modulo 2^32. Takes no memory.
+/// The hash after four more bytes. What they add doesn't wait for the hash before them.
 #[tactic(auto, unfolding(crate::specs::Hashes::hash_after))]
-pub fn bytes_hash(bytes: &[u8]) -> i32
-    ensures { result ≡ cast_signed w32 (BytesHash bytes.now) }
+#[inline(always)]
+fn four_after(hash: u32, a: u8, b: u8, c: u8, d: u8) -> u32
+    ensures { result ≡ hash_after hash (a ∷ b ∷ c ∷ d ∷ []) }
 {
-    let mut hash = 1u32;
+    let first = byte_after(byte_after(0, a), b).wrapping_mul(31 * 31);
+    let added = first.wrapping_add(byte_after(byte_after(0, c), d));
+    hash.wrapping_mul(31 * 31 * 31 * 31).wrapping_add(added)
+}
+
+/// The hash after fewer bytes than four.
+#[tactic(auto, unfolding(crate::specs::Hashes::hash_after))]
+fn rest_after(hash: u32, bytes: &[u8]) -> u32
+    ensures { result ≡ hash_after hash bytes.now }
+{
+    let mut hash = hash;
     for byte in bytes {
         hash = byte_after(hash, *byte);
     }
-    hash.cast_signed()
+    hash
+}
+
+/// The hash after these bytes, where it was `hash` before them: each signed byte in turn is added to
+/// 31 times the hash so far, modulo 2^32. Takes no memory.
+pub fn bytes_hash_after(hash: u32, bytes: &[u8]) -> u32
+    ensures { result ≡ hash_after hash bytes.now }
+{
+    let (mut hash, mut rest) = (hash, bytes);
+    while let [a, b, c, d, after @ ..] = rest {
+        hash = four_after(hash, *a, *b, *c, *d);
+        rest = after;
+    }
+    rest_after(hash, rest)
+}
+
+/// The hash of a complex object's fields, given as their bytes: from 1, as [`bytes_hash_after`] has
+/// it. Takes no memory.
+pub fn bytes_hash(bytes: &[u8]) -> i32
+    ensures { result ≡ cast_signed w32 (BytesHash bytes.now) }
+{
+    bytes_hash_after(1, bytes).cast_signed()
+}
+
+/// What this many bytes multiply the hash before them by: 31 for each byte, modulo 2^32.
+pub fn bytes_factor(len: usize) -> u32
+    ensures { (bytes : List ℕ) → length bytes ≡ len → result ≡ hash_factor bytes }
+{
+    let (mut factor, mut power, mut left) = (1u32, 31u32, len);
+    while left > 0 {
+        if left % 2 == 1 {
+            factor = factor.wrapping_mul(power);
+        }
+        power = power.wrapping_mul(power);
+        left /= 2;
+    }
+    factor
 }
 
 /// Laws of the hash over bytes, as a function whose contract they are. The hash after a prefix is all
