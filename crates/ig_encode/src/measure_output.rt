@@ -1,12 +1,12 @@
 //! A measure as an output: it counts the bytes, hashes them where it has a digest, and keeps none.
 
 ghost use Rattle.std.specs.Prelude.{◌≡◌, ◌*◌, ◌<◌, ◌≤◌, ◌+◌, ◌-◌, ◌^◌, List, ℕ, length, IsTrue, IsFalse, IfSome, IsNone};
-ghost use Rattle.ig_base.specs.Hashes.{java_step, sign_extension};
 ghost use Rattle.ig_encode.specs.MeasureOutput.{measured_after, measured_empty, measured_longer, measure_after, count_after, no_length, no_digest, digest_after, counting_start, hashing_start, fresh_of};
 
 use crate::length::Length;
 use crate::measure::{Digest, Measure};
 use crate::output::Output;
+use ig_base::{bytes_factor, bytes_hash_after};
 
 impl Measure {
     /// The measure of no bytes, which only counts.
@@ -26,16 +26,6 @@ impl Measure {
         Measure {
             length: Length::zero(),
             digest: Some(Digest { pow: 1, sum: 0 }),
-        }
-    }
-
-    /// The measure of no bytes, which hashes where this one does.
-    pub(crate) fn fresh(&self) -> Measure
-        ensures { result ≡ fresh_of self.now }
-    {
-        match self.digest {
-            Some(_) => Measure::hashing(),
-            None => Measure::counting(),
         }
     }
 
@@ -113,7 +103,7 @@ pub(crate) fn count_more(length: &mut Length, more: usize)
 
 /// Counts more bytes, which may carry into the high number.
 #[inline(never)]
-fn carry(length: &mut Length, more: u128)
+pub(crate) fn carry(length: &mut Length, more: u128)
     requires { more ≤ 2 ^ 128 - 2 ^ 64 }
     ensures { length.new ≡ count_after length.old more }
 {
@@ -123,7 +113,7 @@ fn carry(length: &mut Length, more: u128)
 }
 
 /// Counts as many bytes as another length.
-fn add(length: &mut Length, more: &Length)
+pub(crate) fn add(length: &mut Length, more: &Length)
     ensures { (n : ℕ) → more.now ≡ count_after no_length n → length.new ≡ count_after length.old n }
 {
     let sum = length.low as u128 + more.low as u128;
@@ -141,25 +131,10 @@ fn compose(digest: &mut Digest, more: &Digest)
     digest.pow = digest.pow.wrapping_mul(more.pow);
 }
 
-/// The hash after one more byte, a signed number.
-fn byte_after(hash: u32, byte: u8) -> u32
-    ensures { result ≡ java_step hash (sign_extension byte) }
-{
-    let signed = i32::from(byte.cast_signed()).cast_unsigned();
-    hash.wrapping_mul(31).wrapping_add(signed)
-}
-
 /// Hashes more bytes.
-#[tactic(auto, unfolding(crate::specs::MeasureOutput::digest_after))]
 fn hash_more(digest: &mut Digest, bytes: &[u8])
     ensures { digest.new ≡ digest_after digest.old bytes.now }
 {
-    let mut pow = digest.pow;
-    let mut sum = digest.sum;
-    for byte in bytes {
-        pow = pow.wrapping_mul(31);
-        sum = byte_after(sum, *byte);
-    }
-    digest.pow = pow;
-    digest.sum = sum;
+    digest.pow = digest.pow.wrapping_mul(bytes_factor(bytes.len()));
+    digest.sum = bytes_hash_after(digest.sum, bytes);
 }
