@@ -278,21 +278,21 @@ fn optionals<'a, T: Part>(code: u8, bytes: &'a [u8], make: impl FnOnce(Vec<Optio
     Ok((make(items), rest))
 }
 
-fn values(levels: u32, count: usize, bytes: &[u8]) -> Read<'_, Vec<Value>> {
+fn values<'a>(levels: u32, count: usize, bytes: &'a [u8], exact: &mut bool) -> Read<'a, Vec<Value>> {
     let mut items = Vec::with_capacity(count.min(bytes.len()));
     let mut rest = bytes;
     for _ in 0..count {
-        let (item, after) = decode(levels, rest)?;
+        let (item, after) = decode(levels, rest, exact)?;
         items.push(item);
         rest = after;
     }
     Ok((items, rest))
 }
 
-fn typed(levels: u32, bytes: &[u8]) -> Read<'_, (i32, Vec<Value>)> {
+fn typed<'a>(levels: u32, bytes: &'a [u8], exact: &mut bool) -> Read<'a, (i32, Vec<Value>)> {
     let (type_id, rest) = i32::read(bytes)?;
     let (count, rest) = count(rest)?;
-    let (items, rest) = values(levels, count, rest)?;
+    let (items, rest) = values(levels, count, rest, exact)?;
     Ok(((type_id, items), rest))
 }
 
@@ -302,7 +302,8 @@ fn both(bytes: &[u8]) -> Read<'_, (i32, i32)> {
     Ok(((first, second), rest))
 }
 
-fn decode(levels: u32, bytes: &[u8]) -> Read<'_, Value> {
+/// Reads a value. `exact` stays true where its bytes are its canonical form.
+fn decode<'a>(levels: u32, bytes: &'a [u8], exact: &mut bool) -> Read<'a, Value> {
     let (code, rest) = bytes.split_first().ok_or(Fault::Short(0))?;
     if levels == 0 {
         return Err(Fault::Depth(bytes.len()));
@@ -331,11 +332,11 @@ fn decode(levels: u32, bytes: &[u8]) -> Read<'_, Value> {
         20 => optionals(9, rest, Value::Strs),
         21 => optionals(10, rest, Value::Uuids),
         22 => optionals(11, rest, Value::Dates),
-        23 => typed(levels, rest).map(|((type_id, items), rest)| (Value::Objects { type_id, items }, rest)),
+        23 => typed(levels, rest, exact).map(|((type_id, items), rest)| (Value::Objects { type_id, items }, rest)),
         24 => {
             let (count, rest) = count(rest)?;
             let (kind, rest) = i8::read(rest)?;
-            let (items, rest) = values(levels, count, rest)?;
+            let (items, rest) = values(levels, count, rest, exact)?;
             Ok((Value::Collection { kind, items }, rest))
         }
         25 => {
@@ -343,8 +344,8 @@ fn decode(levels: u32, bytes: &[u8]) -> Read<'_, Value> {
             let (kind, mut rest) = i8::read(rest)?;
             let mut pairs = Vec::with_capacity(count.min(rest.len()));
             for _ in 0..count {
-                let (key, after) = decode(levels, rest)?;
-                let (value, after) = decode(levels, after)?;
+                let (key, after) = decode(levels, rest, exact)?;
+                let (value, after) = decode(levels, after, exact)?;
                 pairs.push((key, value));
                 rest = after;
             }
@@ -356,7 +357,7 @@ fn decode(levels: u32, bytes: &[u8]) -> Read<'_, Value> {
             Ok((Value::Wrapped { bytes, offset }, rest))
         }
         28 => both(rest).map(|((type_id, ordinal), rest)| (Value::Enum { type_id, ordinal }, rest)),
-        29 => typed(levels, rest).map(|((type_id, items), rest)| (Value::Enums { type_id, items }, rest)),
+        29 => typed(levels, rest, exact).map(|((type_id, items), rest)| (Value::Enums { type_id, items }, rest)),
         30 => row(rest, Value::Decimal),
         31 => optionals(30, rest, Value::Decimals),
         33 => row(rest, Value::Timestamp),
@@ -365,7 +366,7 @@ fn decode(levels: u32, bytes: &[u8]) -> Read<'_, Value> {
         37 => optionals(36, rest, Value::Times),
         38 => both(rest).map(|((type_id, ordinal), rest)| (Value::BinaryEnum { type_id, ordinal }, rest)),
         101 => Ok((Value::Null, rest)),
-        103 => object(levels, bytes),
+        103 => object(levels, bytes, exact),
         _ => Err(Fault::Code(bytes.len(), *code)),
     }
 }
@@ -388,14 +389,14 @@ fn hash_of(fields: &[u8]) -> i32 {
     fields.iter().fold(1u32, |hash, byte| hash.wrapping_mul(31).wrapping_add(*byte as i8 as u32)) as i32
 }
 
-fn object(levels: u32, bytes: &[u8]) -> Read<'_, Value> {
+fn object<'a>(levels: u32, bytes: &'a [u8], exact: &mut bool) -> Read<'a, Value> {
     let wrong = |at| Fault::Object(bytes.len(), at);
     if bytes.len() < 24 {
         return Err(Fault::Short(bytes.len()));
     }
     let flags = u16::from_le_bytes([bytes[2], bytes[3]]);
-    let (type_id, length, schema, end) =
-        (number(bytes, 4), number(bytes, 12), number(bytes, 16), number(bytes, 20));
+    let (type_id, hash) = (number(bytes, 4), number(bytes, 8));
+    let (length, schema, end) = (number(bytes, 12), number(bytes, 16), number(bytes, 20));
     if bytes[1] != 1 {
         return Err(wrong(1));
     }
@@ -411,6 +412,7 @@ fn object(levels: u32, bytes: &[u8]) -> Read<'_, Value> {
     let (whole, after) = bytes.split_at(length as usize);
     let bits = flags & !0x3E;
     if whole.len() == 24 {
+        *exact = *exact && flags == bits && (hash, schema, end) == (1, 0, 0);
         let shape = Shape::Named(Vec::new());
         return Ok((Value::Object(Box::new(Object { bits, type_id, shape, fields: Vec::new() })), after));
     }
@@ -435,20 +437,22 @@ fn object(levels: u32, bytes: &[u8]) -> Read<'_, Value> {
         Shape::Named(ids)
     };
     let mut fields = Vec::with_capacity(count.min(head.len() - 24));
-    let mut rest = &head[24..];
+    let (mut rest, mut last) = (&head[24..], 0);
     for (i, entry) in footer.chunks_exact(entry).enumerate() {
         let mut offset = [0u8; 4];
         offset[..width].copy_from_slice(&entry[entry.len() - width..]);
-        if u32::from_le_bytes(offset) as usize != head.len() - rest.len() {
+        last = u32::from_le_bytes(offset) as usize;
+        if last != head.len() - rest.len() {
             return Err(wrong(end as usize + i * entry.len()));
         }
-        let (field, after) = decode(levels, rest)?;
+        let (field, after) = decode(levels, rest, exact)?;
         fields.push(field);
         rest = after;
     }
     if !rest.is_empty() {
         return Err(wrong(20));
     }
+    *exact = *exact && width == width_of(last) && hash == hash_of(&head[24..]);
     Ok((Value::Object(Box::new(Object { bits, type_id, shape, fields })), after))
 }
 
@@ -712,9 +716,10 @@ fn main() {
         encode(black_box(&value), &mut bytes);
         writing = writing.min(start.elapsed().as_nanos());
         let start = Instant::now();
-        let read = decode(32, black_box(&bytes));
+        let mut exact = true;
+        let read = decode(32, black_box(&bytes), &mut exact);
         reading = reading.min(start.elapsed().as_nanos());
-        assert!(black_box(read).unwrap().1.is_empty());
+        assert!(black_box(read).unwrap().1.is_empty() && black_box(exact));
     }
     eprintln!("decode {reading} encode {writing}");
 }
