@@ -41,8 +41,8 @@ fn unsigned_hash(text: &str) -> u32
     hash
 }
 
-/// The hash of a text, as Java's `String.hashCode` has it: from 0, each UTF-16 code unit in turn is added
-/// to 31 times the hash so far, modulo 2^32. Takes no memory.
+/// The hash of a text, as Java's `String.hashCode` has it: from 0, each UTF-16 code unit in turn is
+/// added to 31 times the hash so far, modulo 2^32. Takes no memory.
 pub fn text_hash(text: &str) -> i32
     ensures { result ≡ cast_signed w32 (Java (units text.now)) }
 {
@@ -64,8 +64,8 @@ impl fmt::Display for NotAscii {
 
 impl std::error::Error for NotAscii {}
 
-/// The identifier of a type or of a field: the hash of its name in lower case, as [`text_hash`] has it.
-/// Only a name of ASCII has one. Takes no memory.
+/// The identifier of a type or of a field: the hash of its name in lower case, as [`text_hash`] has
+/// it. Only a name of ASCII has one. Takes no memory.
 pub fn name_id(name: &str) -> Result<i32, NotAscii>
     ensures ascii { IfOk result (λ id. IsAscii name.now) }
     ensures hash { IfOk result (λ id.
@@ -114,8 +114,8 @@ fn rest_after(hash: u32, bytes: &[u8]) -> u32
     hash
 }
 
-/// The hash after these bytes, where it was `hash` before them: each signed byte in turn is added to
-/// 31 times the hash so far, modulo 2^32. Takes no memory.
+/// The hash after these bytes, where it was `hash` before them: each signed byte in turn is added
+/// to 31 times the hash so far, modulo 2^32. Takes no memory.
 pub fn bytes_hash_after(hash: u32, bytes: &[u8]) -> u32
     ensures { result ≡ hash_after hash bytes.now }
 {
@@ -150,9 +150,9 @@ pub fn bytes_factor(len: usize) -> u32
     factor
 }
 
-/// Laws of the hash over bytes, as a function whose contract they are. The hash after a prefix is all
-/// that the rest needs. It is the hash before, times the factor of the bytes, plus their hash from 0;
-/// so the hash of bytes that were cut anywhere is made of the hashes of the pieces.
+/// Laws of the hash over bytes, as a function whose contract they are. The hash after a prefix is
+/// all that the rest needs. It is the hash before, times the factor of the bytes, plus their hash
+/// from 0; so the hash of bytes that were cut anywhere is made of the hashes of the pieces.
 pub fn hash_composes()
     ensures appended { (hash : ℕ) (a b : List ℕ)
         → hash_after hash (a ++ b) ≡ hash_after (hash_after hash a) b }
@@ -180,8 +180,8 @@ fn fnv_id(hash: u32, id: i32) -> u32
     fnv_byte(fnv_byte(fnv_byte(fnv_byte(hash, a), b), c), d)
 }
 
-/// The identifier of the schema whose fields have these identifiers, in order: the 32-bit FNV-1a hash
-/// of their little-endian bytes, and 0 without fields. Takes no memory.
+/// The identifier of the schema whose fields have these identifiers, in order: the 32-bit FNV-1a
+/// hash of their little-endian bytes, and 0 without fields. Takes no memory.
 #[tactic(auto, unfolding(crate::specs::Hashes::Fnv))]
 pub fn schema_id(ids: &[i32]) -> i32
     ensures { result ≡ cast_signed w32 (Fnv ids.now) }

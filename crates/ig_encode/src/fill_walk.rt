@@ -114,7 +114,8 @@ fn put_head(
     requires fields { fields.now ≡ object.now.fields }
     requires width { width ≡ least_width (last_of (field_offsets fields.now)) }
     ensures { (out.new, into.new) ≡ window_after out.old into.old (103 ∷ header_bytes
-        (canonical_header object.now.bits object.now.type_id object.now.shape (map Canon fields.now))) }
+        (canonical_header object.now.bits object.now.type_id object.now.shape
+            (map Canon fields.now))) }
 {
     if out.count(HEADER_LEN) {
         return;
@@ -130,8 +131,8 @@ fn put_head(
 fn write_object(object: &Object, fields: &[Value], extent: &Extent, into: &mut [u8])
     requires fields { fields.now ≡ object.now.fields }
     requires extent { extent.now ≡ extent_of fields.now }
-    requires room { length into.old
-        ≡ 24 + (length (flat_map Canon fields.now) + length (least_footer object.now.shape fields.now)) }
+    requires room { length into.old ≡ 24 + (length (flat_map Canon fields.now)
+        + length (least_footer object.now.shape fields.now)) }
     ensures { into.new ≡ 103 ∷ object_bytes object.now.bits object.now.type_id object.now.shape
         (map Canon fields.now) }
 {

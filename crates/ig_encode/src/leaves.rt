@@ -226,7 +226,8 @@ fn put_optionals<T: Spell, S: Output>(
     into: &mut [u8],
 )
     ensures { (out.new, into.new)
-        ≡ S.after out.old into.old (byte_of code ∷ array_bytes (optional_bytes (byte_of inner) T.bytes) parts.now) }
+        ≡ S.after out.old into.old (byte_of code
+            ∷ array_bytes (optional_bytes (byte_of inner) T.bytes) parts.now) }
 {
     let count = Count { items: parts.len() };
     put_scalar(code, &count, out, into);

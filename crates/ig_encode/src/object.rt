@@ -199,8 +199,8 @@ pub(crate) fn object_len(shape: &Shape, fields: &[Value], extent: &Extent) -> Op
     parts.checked_add(HEADER_LEN)
 }
 
-/// The header of an object whose fields have this measure, and offsets of this width. Of a length of
-/// 2^31 and more it has the lowest 32 bits.
+/// The header of an object whose fields have this measure, and offsets of this width. Of a length
+/// of 2^31 and more it has the lowest 32 bits.
 pub(crate) fn header_of(object: &Object, fields: &Measure, width: OffsetWidth) -> Header
     requires fields { fields.now ≡ measure_after hashing_start (flat_map Canon object.now.fields) }
     requires width { width ≡ least_width (last_of (field_offsets object.now.fields)) }

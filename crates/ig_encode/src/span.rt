@@ -18,8 +18,8 @@ pub(crate) struct Offset {
     pub(crate) width: OffsetWidth,
 }
 
-/// The fields of an object, counted: how many bytes they have, and the offset of the last of them (0
-/// without fields).
+/// The fields of an object, counted: how many bytes they have, and the offset of the last of them
+/// (0 without fields).
 #[derive(Clone, Copy, Debug, PartialEq, Eq)]
 pub(crate) struct Extent {
     pub(crate) length: Length,
