@@ -41,6 +41,9 @@ pub(crate) fn put_least_footer<S: Output>(
 )
     ensures { (out.new, into.new) ≡ S.after out.old into.old (least_footer shape.now fields.now) }
 {
+    if out.is_full(into) {
+        return;
+    }
     let extent = measure_extent(fields);
     put_footer(shape, fields, extent.last.width, out, into);
 }

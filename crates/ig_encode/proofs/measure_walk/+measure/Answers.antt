@@ -1,12 +1,17 @@
-use Rattle.std.proofs.Common.{length, refl, sym, ap, ◌∙◌}
+use Rattle.std.proofs.Common.{List, ◌∷◌, length, map, take, refl, sym, ap, ◌∙◌}
 use Rattle.std.specs.List.{flat_map}
 use Rattle.ig_value.specs.declared.value.Value.TheVariants as value
 use Rattle.ig_value.specs.Canon.{Canon}
 use Rattle.ig_encode.specs.ListBytes.{pair_bytes}
-use Rattle.ig_encode.specs.MeasureOutput.{measure_after, fresh_of}
+use Rattle.ig_value.specs.Objects.{object_bytes}
+use Rattle.ig_value.specs.declared.value.Value.{Value}
+use Rattle.ig_encode.specs.declared.measure.Measure.{Measure}
+use Rattle.ig_encode.specs.Spans.{offset_of}
+use Rattle.ig_encode.specs.MeasureOutput.{measure_after, counting_start, hashing_start}
 use Rattle.ig_encode.proofs.CanonLemmas.{Canon_objects, Canon_enums, Canon_collection, Canon_map, Canon_object, typed_head, kinded_head}
 use Rattle.ig_encode.proofs.MeasureLemmas.{measure_none, measured_both, measured_more}
 use Rattle.ig_encode.proofs.SpanLemmas.{span_more, span_none, measure_two}
+use Rattle.ig_encode.proofs.ExtentLemmas.{last_next}
 use Rattle.ig_encode.proofs.measure_walk.+measure.Goals as goal
 
 pub measure_value-returns-in-Objects : goal.measure_value-returns-in-Objects
@@ -36,7 +41,26 @@ measure_value-returns-in-Enums t c =
 pub measure_value-returns-in-Object : goal.measure_value-returns-in-Object
 measure_value-returns-in-Object t c =
     let o = c.get-object.result.now in
-    c.put_measured.ensures ∙ ap (measure_after c.args.out.now) (sym (Canon_object c.args.value.now o (c.in-Object.is ∙ ap value.Object (sym c.get-object.ensures))))
+    c.measure_object.ensures ∙ ap (λ (xs : List Value). measure_after c.args.out.now (103 ∷ object_bytes o.bits o.type_id o.shape (map Canon xs))) c.as_slice.ensures
+    ∙ ap (measure_after c.args.out.now) (sym (Canon_object c.args.value.now o (c.in-Object.is ∙ ap value.Object (sym c.get-object.ensures))))
+
+pub measure_object-returns-then-is_none : goal.measure_object-returns-then-is_none
+measure_object-returns-then-is_none t c = c.count_object.ensures c.args.object.now.bits c.args.object.now.type_id
+
+pub measure_object-returns : goal.measure_object-returns
+measure_object-returns t c =
+    let o = c.args.object.now in
+    c.put_measured.ensures ∙ ap (λ (xs : List Value). measure_after c.args.out.now (103 ∷ object_bytes o.bits o.type_id o.shape (map Canon xs))) (sym c.requires)
+
+pub measure_extent-loop-field-init : goal.measure_extent-loop-field-init
+measure_extent-loop-field-init t c = record { counted = c.counting-measure.ensures ∙ measure_none counting_start; last = refl; }
+
+pub measure_extent-loop-field-preserved : goal.measure_extent-loop-field-preserved
+measure_extent-loop-field-preserved t c = record {
+  counted = measured_more Canon counting_start c.args.fields.now c.loop-field.field-index c.field-item.result c.loop-field.measure c.measure_value.new.out c.loop-field-test.true c.field-item.is c.loop-field.invariant.counted c.measure_value.ensures;
+  last = c.offset_after-last.ensures (length (flat_map Canon (take c.loop-field.field-index c.args.fields.now))) (ap (λ (m : Measure). m.length) c.loop-field.invariant.counted)
+      ∙ ap offset_of (sym (last_next c.args.fields.now c.loop-field.field-index c.field-item.result c.loop-field-test.true));
+}
 
 pub measure_values-loop-value-init : goal.measure_values-loop-value-init
 measure_values-loop-value-init t c = measure_none c.args.out.now
@@ -54,9 +78,9 @@ measure_pairs-loop-key-preserved t c =
     (c.measure_value-in-loop-key.ensures ∙ ap (λ m. measure_after m (Canon c.loop-key-item.result.1)) c.measure_value.ensures ∙ sym (measure_two c.loop-key.out (Canon c.loop-key-item.result.0) (Canon c.loop-key-item.result.1)))
 
 pub measure_span-loop-index-init : goal.measure_span-loop-index-init
-measure_span-loop-index-init t c = span_none (fresh_of c.args.like.now) c.args.shape.now c.fresh.result c.fresh-2.result c.fresh-3.result c.fresh-4.result c.fresh.ensures c.fresh-2.ensures c.fresh-3.ensures c.fresh-4.ensures
+measure_span-loop-index-init t c = span_none hashing_start c.args.shape.now c.hashing.result c.hashing-2.result c.hashing-3.result c.hashing-4.result c.hashing.ensures c.hashing-2.ensures c.hashing-3.ensures c.hashing-4.ensures
 
 pub measure_span-loop-index-preserved : goal.measure_span-loop-index-preserved
 measure_span-loop-index-preserved t c =
-    span_more (fresh_of c.args.like.now) c.args.shape.now c.args.fields.now c.loop-index.index c.index-fields-index.result c.loop-index.span c.note_entry.new.span c.measure_value.new.out c.loop-index-test.true c.index-fields-index.is refl c.loop-index.invariant
+    span_more hashing_start c.args.shape.now c.args.fields.now c.loop-index.index c.index-fields-index.result c.loop-index.span c.note_entry.new.span c.measure_value.new.out c.loop-index-test.true c.index-fields-index.is refl c.loop-index.invariant
     c.note_entry.ensures c.measure_value.ensures
