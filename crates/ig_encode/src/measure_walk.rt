@@ -77,13 +77,16 @@ fn measure_object(object: &Object, fields: &[Value], out: &mut Measure)
     ensures { out.new ≡ measure_after out.old (103 ∷ object_bytes object.now.bits
         object.now.type_id object.now.shape (map Canon fields.now)) }
 {
-    if out.digest.is_none() {
-        let extent = measure_extent(fields);
-        count_object(&object.shape, fields, &extent, out);
-        return;
+    match out.digest {
+        None => {
+            let extent = measure_extent(fields);
+            count_object(&object.shape, fields, &extent, out);
+        }
+        Some(_) => {
+            let span = measure_span(&object.shape, fields);
+            put_measured(object, &span, out);
+        }
     }
-    let span = measure_span(&object.shape, fields);
-    put_measured(object, &span, out);
 }
 
 /// Counts the fields of an object.

@@ -6,11 +6,11 @@ use Rattle.ig_encode.specs.ListBytes.{pair_bytes}
 use Rattle.ig_value.specs.Objects.{object_bytes}
 use Rattle.ig_value.specs.declared.value.Value.{Value}
 use Rattle.ig_encode.specs.declared.measure.Measure.{Measure}
-use Rattle.ig_encode.specs.Spans.{offset_of}
+use Rattle.ig_encode.specs.Spans.{offset_of, span_of}
 use Rattle.ig_encode.specs.MeasureOutput.{measure_after, counting_start, hashing_start}
 use Rattle.ig_encode.proofs.CanonLemmas.{Canon_objects, Canon_enums, Canon_collection, Canon_map, Canon_object, typed_head, kinded_head}
 use Rattle.ig_encode.proofs.MeasureLemmas.{measure_none, measured_both, measured_more}
-use Rattle.ig_encode.proofs.SpanLemmas.{span_more, span_none, measure_two}
+use Rattle.ig_encode.proofs.SpanLemmas.{span_more, span_none, measure_two, fresh_hashing}
 use Rattle.ig_encode.proofs.ExtentLemmas.{last_next}
 use Rattle.ig_encode.proofs.measure_walk.+measure.Goals as goal
 
@@ -44,11 +44,16 @@ measure_value-returns-in-Object t c =
     c.measure_object.ensures ∙ ap (λ (xs : List Value). measure_after c.args.out.now (103 ∷ object_bytes o.bits o.type_id o.shape (map Canon xs))) c.as_slice.ensures
     ∙ ap (measure_after c.args.out.now) (sym (Canon_object c.args.value.now o (c.in-Object.is ∙ ap value.Object (sym c.get-object.ensures))))
 
-pub measure_object-returns-then-is_none : goal.measure_object-returns-then-is_none
-measure_object-returns-then-is_none t c = c.count_object.ensures c.args.object.now.bits c.args.object.now.type_id
+pub measure_object-returns-in-None : goal.measure_object-returns-in-None
+measure_object-returns-in-None t c = c.count_object.ensures c.args.object.now.bits c.args.object.now.type_id
 
-pub measure_object-returns : goal.measure_object-returns
-measure_object-returns t c =
+pub measure_object-put_measured-requires : goal.measure_object-put_measured-requires
+measure_object-put_measured-requires t c =
+    let o = c.args.object.now in
+    c.measure_span.ensures ∙ ap (span_of hashing_start o.shape) c.requires ∙ ap (λ (m : Measure). span_of m o.shape o.fields) (sym (fresh_hashing c.args.out.now _ c.in-Some.is))
+
+pub measure_object-returns-in-Some : goal.measure_object-returns-in-Some
+measure_object-returns-in-Some t c =
     let o = c.args.object.now in
     c.put_measured.ensures ∙ ap (λ (xs : List Value). measure_after c.args.out.now (103 ∷ object_bytes o.bits o.type_id o.shape (map Canon xs))) (sym c.requires)
 
