@@ -1,12 +1,12 @@
 -- A reader of fields, the bytes that it reads, and where they stop: how each way of putting fields
 -- together keeps their agreement.
-use Rattle.std.proofs.Common.{◌≡◌, ℕ, zero, suc, ◌+◌, ◌-◌, ◌≤◌, List, [], ◌∷◌, ◌++◌, length, take, drop, ◌≢◌, Result, Ok, Err, refl, sym, ap, subst, ◌∙◌, append_assoc, append-nil, arith, inl, inr, length-append, ◌⊎◌}
+use Rattle.std.proofs.Common.{◌≡◌, ℕ, suc, ◌+◌, ◌-◌, ◌≤◌, List, [], ◌∷◌, ◌++◌, length, drop, ◌≢◌, Result, Ok, Err, refl, sym, ap, subst, ◌∙◌, append_assoc, append-nil, arith, inl, inr, length-append, ◌⊎◌}
 use Rattle.std.proofs.lemmas.List.{drop_at}
 use Rattle.ig_base.specs.Numbers.{AreBytes}
 use Rattle.ig_value.specs.declared.Cause.{Cause}
-use Rattle.ig_value.specs.Reading.{Fault, Read}
+use Rattle.ig_value.specs.Reading.{Read}
 use Rattle.ig_value.proofs.AgreesLemmas.{Takes, Agrees, AreBytes-suffix}
-use Rattle.ig_wire.specs.Fields.{IsLeftOver, StopsAfter, StopsThen, Field, ◌>>=◌, placed, whole}
+use Rattle.ig_wire.specs.Fields.{IsLeftOver, StopsThen, Field, ◌>>=◌, placed, whole}
 
 -- the value of a step that did not fail
 pub bind_ok : {A B : Type 0} (r : Result A ℕ) (f : A → Result B ℕ) (y : B) → (r >>= f) ≡ Ok y → (x : A) × (r ≡ Ok x) × (f x ≡ Ok y)
@@ -81,7 +81,6 @@ pub record IsThen {A B : Type 0} (P : List ℕ → A → Type 0) (Q : A → List
   pub next : Q first suffix y
 
 module _ {A B : Type 0} (P : List ℕ → A → Type 0) (W : List ℕ → ℕ → Type 0) (R : List ℕ → Field A) (Q : A → List ℕ → B → Type 0) (V : A → List ℕ → ℕ → Type 0) (T : A → List ℕ → Field B) where
-
   then_takes : IsRead P W R → ((x : A) → IsRead (Q x) (V x) (T x)) → (s : List ℕ) (y : B) (rest : List ℕ) → AreBytes s → (R s >>= λ x. T x.0 x.1) ≡ Ok (y, rest) → Takes (IsThen P Q) s y rest
   then_takes p q s y rest bytes e =
       let a = bind_ok (R s) (λ x. T x.0 x.1) (y, rest) e in
@@ -242,12 +241,13 @@ whole_read {A} P W R p = record {
   whole_halted s at (inl w) = let h = p.halted s at w in (h.left, h.there, ap whole h.is)
   whole_halted s at (inr w) =
       let l = left_over w.suffix w.wrong.some in
-      let e : s ≡ w.prefix ++ (l.0 ∷ l.1) = w.whole ∙ ap (λ (r : List ℕ). w.prefix ++ r) l.2 in
-      (suc (length l.1), omega (arith, w.there, w.wrong.here, ap length e, length-append w.prefix (l.0 ∷ l.1)),
-      ap (λ (r : List ℕ). whole (R r)) e ∙ ap whole (p.again w.prefix w.first (l.0 ∷ l.1) w.right))
+      let e : s ≡ w.prefix ++ (l.0 ∷ l.1) = w.whole ∙ ap (λ (r : List ℕ). w.prefix ++ r) l.2 in (
+        suc (length l.1),
+        omega (arith, w.there, w.wrong.here, ap length e, length-append w.prefix (l.0 ∷ l.1)),
+        ap (λ (r : List ℕ). whole (R r)) e ∙ ap whole (p.again w.prefix w.first (l.0 ∷ l.1) w.right),
+      )
 
 module _ {A B : Type 0} (P : List ℕ → A → Type 0) (W : List ℕ → ℕ → Type 0) (R : List ℕ → Field A) (Q : A → List ℕ → B → Type 0) (V : A → List ℕ → ℕ → Type 0) (T : A → List ℕ → Result B ℕ) where
-
   last_right : IsRead P W R → ((x : A) → IsMessage (Q x) (V x) (T x)) → (s : List ℕ) (y : B) → AreBytes s → (R s >>= λ x. T x.0 x.1) ≡ Ok y → IsThen P Q s y
   last_right p q s y bytes e =
       let a = bind_ok (R s) (λ x. T x.0 x.1) y e in

@@ -1,21 +1,21 @@
 -- Hellos are answered as their bytes say.
-use Rattle.std.proofs.Common.{◌≡◌, ◌≢◌, ℕ, zero, suc, ◌+◌, ◌-◌, ◌<◌, ◌≤◌, ℤ, Bool, true, false, List, [], ◌∷◌, ◌++◌, length, length-append, take, drop, Option, None, Some, Result, Ok, Err, refl, sym, ap, subst, ◌∙◌, arith, inl, inr, ◌⊎◌, append-nil, append_assoc}
+use Rattle.std.proofs.Common.{◌≡◌, ◌≢◌, ℕ, zero, suc, ◌+◌, ◌<◌, ◌≤◌, ℤ, Bool, true, false, List, [], ◌∷◌, ◌++◌, length, length-append, take, drop, Option, None, Some, Result, Ok, Err, refl, sym, ap, subst, ◌∙◌, arith, inl, inr, append-nil, append_assoc}
 use Rattle.std.specs.Prelude.{FitsSigned, ◌==◌, slice_index, pos, unwrap_or, is_some, if◌then◌else◌}
 use Rattle.std.specs.Int.{w16, cast_signed, from_le_bytes}
 use Rattle.std.proofs.lemmas.Bool.{ne_eqb, eq-eqb, eqb-true, le-ltb, cond-false}
 use Rattle.ig_base.specs.Numbers.{LE, AreBytes, number_at}
 use Rattle.ig_base.proofs.NumberLemmas.{reads_16}
 use Rattle.ig_value.proofs.ScalarLemmas.{signed_number, wide16}
-use Rattle.ig_value.proofs.AgreesLemmas.{Takes, AreBytes-drop}
-use Rattle.ig_wire.specs.Versions.{version_bytes, IsVersion, is_accepted, has_login}
-use Rattle.ig_wire.specs.Fields.{nullable_string, IsNullableText, IsNullableString, IsLeftOver, StopsNullableString, StopsThen, Field, ◌>>=◌, nullable_string_of, whole, frame_place}
+use Rattle.ig_value.proofs.AgreesLemmas.{AreBytes-drop}
+use Rattle.ig_wire.specs.Versions.{IsVersion, is_accepted, has_login}
+use Rattle.ig_wire.specs.Fields.{nullable_string, IsNullableString, StopsNullableString, StopsThen, Field, ◌>>=◌, nullable_string_of, whole, frame_place}
 use Rattle.ig_wire.specs.Greets.{hello_bytes, login_bytes, MayLogin, IsLoginOfTexts, hello_start, thin_client, Credentials, IsLogin, IsTail, StopsLogin, StopsTail, BeginsHello, Greets, version_at, login_of, tail_of, greeting_after, greeting_at, greeting}
 use Rattle.ig_wire.specs.declared.version.Version.{Version}
 use Rattle.ig_wire.specs.declared.hello.Hello.{Hello}
 use Rattle.ig_wire.specs.declared.hello.Login.{Login}
 use Rattle.ig_wire.specs.declared.hello.HelloFault.{HelloFault}
 use Rattle.ig_wire.specs.declared.hello.HelloFault.TheVariants as fault
-use Rattle.ig_wire.proofs.AgreeLemmas.{Halts, Halted, IsRead, IsThen, IsMade, then_read, made_read, same_read, IsMessage, whole_read, made_message, ok_is, err_is}
+use Rattle.ig_wire.proofs.AgreeLemmas.{Halts, IsRead, IsThen, IsMade, then_read, made_read, same_read, IsMessage, whole_read, made_message, ok_is, err_is}
 use Rattle.ig_wire.proofs.LeafLemmas.{nullable_read}
 use Rattle.ig_wire.proofs.WriteLemmas.{length-start}
 
@@ -160,10 +160,10 @@ begins_hello (a ∷ b ∷ c ∷ d ∷ e ∷ f ∷ g ∷ h ∷ tail) bytes long f
     let version : Version = version_with (short_of (b ∷ c ∷ [])) (short_of (d ∷ e ∷ [])) (short_of (f ∷ g ∷ [])) in
     let begins : BeginsHello body version h tail = record {
       whole = ap (λ (n : ℕ). n ∷ b ∷ c ∷ d ∷ e ∷ f ∷ g ∷ h ∷ tail) first ∙ ap (λ (l : List ℕ). 1 ∷ l) (
-        ap (λ (l : List ℕ). l ++ (d ∷ e ∷ f ∷ g ∷ h ∷ tail)) major.1
-        ∙ ap (λ (l : List ℕ). LE w16 version.major ++ (l ++ (f ∷ g ∷ h ∷ tail))) minor.1
-        ∙ ap (λ (l : List ℕ). LE w16 version.major ++ (LE w16 version.minor ++ (l ++ (h ∷ tail)))) patch.1
-        ∙ regrouped (LE w16 version.major) (LE w16 version.minor) (LE w16 version.patch) h tail);
+          ap (λ (l : List ℕ). l ++ (d ∷ e ∷ f ∷ g ∷ h ∷ tail)) major.1
+          ∙ ap (λ (l : List ℕ). LE w16 version.major ++ (l ++ (f ∷ g ∷ h ∷ tail))) minor.1
+          ∙ ap (λ (l : List ℕ). LE w16 version.major ++ (LE w16 version.minor ++ (l ++ (h ∷ tail)))) patch.1
+          ∙ regrouped (LE w16 version.major) (LE w16 version.minor) (LE w16 version.patch) h tail);
       numbers = record { major = major.0; minor = minor.0; patch = patch.0 };
     } in
     subst (λ (v : Version). BeginsHello body v h tail) (sym (read_version body long)) begins

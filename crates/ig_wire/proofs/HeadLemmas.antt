@@ -1,5 +1,5 @@
 -- The heads of replies are read as they are spelled.
-use Rattle.std.proofs.Common.{◌≡◌, ◌≢◌, ℕ, zero, suc, ◌+◌, ◌<◌, ◌≤◌, ℤ, pos, negsuc, Bool, true, false, List, [], ◌∷◌, ◌++◌, length, take, drop, Option, None, Some, Result, Ok, Err, refl, sym, ap, subst, ◌∙◌, arith, inl, inr, ◌⊎◌, append-nil, append_assoc}
+use Rattle.std.proofs.Common.{◌≡◌, ◌≢◌, ℕ, ℤ, pos, Bool, true, false, List, [], ◌++◌, length, Option, None, Some, Ok, Err, refl, sym, ap, subst, ◌∙◌, arith, inl, inr, append-nil, append_assoc}
 use Rattle.std.specs.Prelude.{FitsSigned, is_some}
 use Rattle.std.specs.Ordering.{int_eq}
 use Rattle.std.specs.Int.{w16, w32, w64}
@@ -9,12 +9,12 @@ use Rattle.ig_base.specs.Numbers.{LE, AreBytes}
 use Rattle.ig_base.specs.declared.Topology.{Topology}
 use Rattle.ig_value.proofs.AgreesLemmas.{Takes}
 use Rattle.ig_wire.specs.Versions.{has_flags}
-use Rattle.ig_wire.specs.Fields.{string, IsText, IsNumber, IsString, IsShort, StopsString, StopsThen, Field, ◌>>=◌, number_of, string_of}
+use Rattle.ig_wire.specs.Fields.{string, IsNumber, IsString, IsShort, StopsString, StopsThen, Field, ◌>>=◌, number_of, string_of}
 use Rattle.ig_wire.specs.Heads.{flag_number, topology_bytes, fault_bytes, told_bytes, head_bytes, IsTopology, IsFault, MayTell, IsHead, IsFlags, StopsFlags, IsTopologyField, StopsTopology, IsFaultField, StopsFault, StopsStatus, StopsTold, StopsHead, Told, fault_after, fault_of, topology_of, parts_of, known_flags, flags_of, status_of, told_of, head_of}
 use Rattle.ig_wire.specs.declared.version.Version.{Version}
 use Rattle.ig_wire.specs.declared.head.Fault.{Fault}
 use Rattle.ig_wire.specs.declared.head.ReplyHead.{ReplyHead}
-use Rattle.ig_wire.proofs.AgreeLemmas.{Halts, Halted, IsRead, IsThen, IsMade, then_read, made_read, same_read, same_stop, by_reader, nothing_read, bind_ok, bind_err, ok_is, err_is}
+use Rattle.ig_wire.proofs.AgreeLemmas.{Halts, Halted, IsRead, IsThen, IsMade, then_read, made_read, same_read, nothing_read, bind_ok, bind_err, ok_is, err_is}
 use Rattle.ig_wire.proofs.LeafLemmas.{i16_read, i32_read, i64_read, string_read}
 
 -- ---- flags
@@ -155,9 +155,9 @@ topology_back s (Some t) h = record {
 pub topology_read : (is_told : Bool) → IsRead (IsTopologyField is_told) (StopsTopology is_told) (topology_of is_told)
 topology_read false =
     same_read (λ s (t : Option Topology). (s ≡ []) × (t ≡ None)) (IsTopologyField false) (λ s at. ⊥) (λ s. Ok (None, s)) (λ s t h. rw (h.1, h.0) (refl, tt, refl)) untold (nothing_read None) where
-  untold : (s : List ℕ) (t : Option Topology) → IsTopologyField false s t → (s ≡ []) × (t ≡ None)
-  untold s None h = (h.2, refl)
-  untold s (Some t) h = absurd (let no = h.0 in cc)
+      untold : (s : List ℕ) (t : Option Topology) → IsTopologyField false s t → (s ≡ []) × (t ≡ None)
+      untold s None h = (h.2, refl)
+      untold s (Some t) h = absurd (let no = h.0 in cc)
 topology_read true =
     same_read MadeTopology (IsTopologyField true) (StopsThen (IsNumber w64) (IsShort 8) (λ version. IsShort 4)) (topology_of true) topology_forth topology_back
     (then_read (IsNumber w64) (IsShort 8) (number_of w64) (λ version. IsMade (IsNumber w32) (topology_with version)) (λ version. IsShort 4)
@@ -194,9 +194,9 @@ fault_back s (Some fault) h = record {
 pub fault_read : (is_told : Bool) → IsRead (IsFaultField is_told) (StopsFault is_told) (fault_of is_told)
 fault_read false =
     same_read (λ s (fault : Option Fault). (s ≡ []) × (fault ≡ None)) (IsFaultField false) (λ s at. ⊥) (λ s. Ok (None, s)) (λ s fault h. rw (h.1, h.0) (refl, tt, refl)) untold (nothing_read None) where
-  untold : (s : List ℕ) (fault : Option Fault) → IsFaultField false s fault → (s ≡ []) × (fault ≡ None)
-  untold s None h = (h.2, refl)
-  untold s (Some fault) h = absurd (let no = h.0 in cc)
+      untold : (s : List ℕ) (fault : Option Fault) → IsFaultField false s fault → (s ≡ []) × (fault ≡ None)
+      untold s None h = (h.2, refl)
+      untold s (Some fault) h = absurd (let no = h.0 in cc)
 fault_read true =
     same_read MadeFault (IsFaultField true) (StopsThen (IsNumber w32) (IsShort 4) (λ status. StopsString)) (fault_of true) fault_forth fault_back
     (then_read (IsNumber w32) (IsShort 4) (number_of w32) (λ status. IsMade (IsMade IsString (fault_with status)) some_fault) (λ status. StopsString)

@@ -1,15 +1,14 @@
 -- The replies to hellos are read as they are spelled.
-use Rattle.std.proofs.Common.{◌≡◌, ◌≢◌, ℕ, zero, suc, ◌+◌, ◌<◌, ◌≤◌, ℤ, Bool, true, false, List, [], ◌∷◌, ◌++◌, length, Option, None, Some, Result, Ok, Err, refl, sym, ap, subst, ◌∙◌, arith, inl, inr, ◌⊎◌, append-nil, append_assoc}
-use Rattle.std.specs.Prelude.{FitsSigned, ◌==◌}
+use Rattle.std.proofs.Common.{◌≡◌, ◌≢◌, ℕ, zero, suc, ◌+◌, ◌<◌, ℤ, Bool, true, false, List, [], ◌∷◌, ◌++◌, length, Option, None, Some, Result, Ok, Err, refl, sym, ap, subst, ◌∙◌, arith, inl, inr, append_assoc}
 use Rattle.std.specs.Int.{w16, w32}
-use Rattle.std.proofs.lemmas.Bool.{ne_eqb, eq-eqb, cases_eq}
+use Rattle.std.proofs.lemmas.Bool.{ne_eqb}
 use Rattle.std.proofs.lemmas.List.{nil_from_length}
 use Rattle.ig_base.specs.Numbers.{LE, AreBytes}
 use Rattle.ig_base.specs.declared.NodeId.{NodeId}
 use Rattle.ig_base.proofs.NumberLemmas.{length-LE_32}
 use Rattle.ig_value.proofs.AgreesLemmas.{Takes}
-use Rattle.ig_wire.specs.Versions.{version_bytes, IsVersion, has_flags}
-use Rattle.ig_wire.specs.Fields.{string, IsText, IsNode, IsNumber, IsString, IsNodeObject, IsShort, IsOtherByte, IsLeftOver, StopsString, StopsNode, StopsThen, Field, ◌>>=◌, number_of, string_of, node_of, whole}
+use Rattle.ig_wire.specs.Versions.{version_bytes, has_flags}
+use Rattle.ig_wire.specs.Fields.{string, IsNumber, IsString, IsNodeObject, IsShort, IsLeftOver, StopsString, StopsNode, StopsThen, ◌>>=◌, number_of, string_of, node_of, whole}
 use Rattle.ig_wire.specs.HelloReplies.{node_bytes, code_bytes, hello_reply_bytes, TellsNode, IsCode, IsHelloReply, IsVerdict, StopsVerdict, IsVersionField, StopsVersion, StopsCode, StopsRefusal, StopsAcceptance, StopsAfterVerdict, StopsHelloReply, version_of, code_of, refusal_of, verdict_of, acceptance_of, reply_after, hello_reply_of}
 use Rattle.ig_wire.specs.declared.version.Version.{Version}
 use Rattle.ig_wire.specs.declared.hello_reply.HelloReply.{HelloReply}
@@ -28,8 +27,10 @@ MadeVersion = IsThen (IsNumber w16) (λ major. IsThen (IsNumber w16) (λ minor. 
 version_forth : (s : List ℕ) (v : Version) → MadeVersion s v → IsVersionField s v
 version_forth s v h =
     let m = h.next in
-    rw m.next.is (record { major = h.right.0; minor = m.right.0; patch = m.next.right.0 },
-    h.whole ∙ rw (h.right.1, m.whole, m.right.1, m.next.right.1) (sym (append_assoc (LE w16 h.first) (LE w16 m.first) (LE w16 m.next.part))))
+    rw m.next.is (
+      record { major = h.right.0; minor = m.right.0; patch = m.next.right.0 },
+      h.whole ∙ rw (h.right.1, m.whole, m.right.1, m.next.right.1) (sym (append_assoc (LE w16 h.first) (LE w16 m.first) (LE w16 m.next.part))),
+    )
 
 version_back : (s : List ℕ) (v : Version) → IsVersionField s v → MadeVersion s v
 version_back s v h = record {
@@ -183,6 +184,7 @@ acceptance_read false = record {
   alone_halts : (s : List ℕ) (left : ℕ) → AreBytes s → acceptance_of false s ≡ Err left → Halts IsLeftOver s left
   alone_halts [] left bytes e = absurd cc
   alone_halts (b ∷ s) left bytes e = let f : suc (length s) ≡ left = err_is {A = HelloReply} (suc (length s)) left e in record { at = 0; there = omega (arith, f); wrong = record { some = some_bytes b s; here = refl } }
+
   alone_halted : (s : List ℕ) (at : ℕ) → IsLeftOver s at → (left : ℕ) × (left + at ≡ length s) × (acceptance_of false s ≡ Err left)
   alone_halted [] at w = absurd (w.some refl)
   alone_halted (b ∷ s) at w = (suc (length s), omega (arith, w.here), refl)
@@ -205,8 +207,10 @@ refusal_forth : (v : Version) (s : List ℕ) (reply : HelloReply) → MadeRefusa
 refusal_forth v s reply h =
     let t = h.next in
     let n = t.next in
-    rw n.is ((h.right.0, t.right.0, n.right.0),
-    ap (λ (l : List ℕ). 0 ∷ l) (h.whole ∙ rw (h.right.1, t.whole, t.right.1, n.right.1) (sym (append_assoc (version_bytes h.first) (string t.first) (code_bytes n.part)))))
+    rw n.is (
+      (h.right.0, t.right.0, n.right.0),
+      ap (λ (l : List ℕ). 0 ∷ l) (h.whole ∙ rw (h.right.1, t.whole, t.right.1, n.right.1) (sym (append_assoc (version_bytes h.first) (string t.first) (code_bytes n.part)))),
+    )
 
 reply_forth : (v : Version) (s : List ℕ) (reply : HelloReply) → IsThen IsVerdict (MadeAfter v) s reply → IsReplyField v s reply
 reply_forth v s reply h = by_verdict h.first h.right h.next where

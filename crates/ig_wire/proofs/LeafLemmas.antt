@@ -1,31 +1,28 @@
 -- Single fields are read as they are spelled.
-use Rattle.std.proofs.Common.{◌≡◌, ◌≢◌, ℕ, zero, suc, ◌+◌, ◌<◌, ◌≤◌, ◌^◌, ℤ, pos, Bool, true, false, cond, nat_eq, List, [], ◌∷◌, ◌++◌, length, take, drop, Option, None, Some, Result, Ok, Err, refl, sym, ap, subst, ◌∙◌, arith, inl, inr, ◌⊎◌, append-nil}
-use Rattle.std.specs.Prelude.{FitsSigned, nat_lt}
-use Rattle.std.specs.Int.{Width, w16, w32, w64, byte_len}
+use Rattle.std.proofs.Common.{◌≡◌, ℕ, suc, pos, Bool, true, false, List, [], ◌∷◌, ◌++◌, length, Option, None, Some, Ok, Err, refl, sym, ap, ◌∙◌, arith, inl, inr}
+use Rattle.std.specs.Prelude.{nat_lt}
+use Rattle.std.specs.Int.{w16, w32, w64}
 use Rattle.std.specs.Prelude.{◌==◌}
 use Rattle.std.proofs.lemmas.Bool.{ne_eqb, eq-eqb, cases_eq}
 use Rattle.std.proofs.lemmas.List.{nil_from_length}
-use Rattle.std.specs.Str.{IsUtf8}
-use Rattle.ig_base.specs.Numbers.{LE, AreBytes, number_at}
+use Rattle.ig_base.specs.Numbers.{LE, AreBytes}
 use Rattle.ig_base.specs.declared.NodeId.{NodeId}
 use Rattle.ig_value.specs.declared.Cause.{Cause}
 use Rattle.ig_value.specs.declared.Cause.TheVariants as cause
 use Rattle.ig_value.specs.declared.Code.{Code}
 use Rattle.ig_value.specs.declared.Code.TheVariants as code
 use Rattle.ig_value.specs.Table.{byte_of}
-use Rattle.ig_value.specs.Part.{i16, i32, i64, u64, Scalar, ScalarValue}
-use Rattle.ig_value.specs.Spells.{IsScalar, IsRun, IsTextRun, IsCounted, IsCoded, IsBoth, IsOptional}
-use Rattle.ig_value.specs.Stops.{IsTruncated, StopsScalar, StopsCoded, StopsCounted, StopsTextRun, StopsBoth, StopsOptional, scalar_len}
+use Rattle.ig_value.specs.Part.{i16, i32, i64, u64}
+use Rattle.ig_value.specs.Spells.{IsScalar, IsTextRun, IsCounted, IsCoded, IsBoth, IsOptional}
+use Rattle.ig_value.specs.Stops.{IsTruncated, StopsScalar, StopsCounted, StopsTextRun, StopsBoth, StopsOptional}
 use Rattle.ig_value.specs.Canon.{counted_bytes, uuid_bytes}
 use Rattle.ig_value.specs.Reading.{Read, scalar_at, counted_at, text_run_at, optional_at, uuid_at, both_at}
 use Rattle.ig_value.proofs.AgreesLemmas.{Takes, Agrees, AreBytes-suffix, both_agrees, seen_agrees}
 use Rattle.ig_value.proofs.ItemLemmas.{optional_agrees}
 use Rattle.ig_value.proofs.ScalarLemmas.{scalar_agrees}
 use Rattle.ig_value.proofs.CountLemmas.{counted_agrees, text_run_agrees}
-use Rattle.ig_value.proofs.PartLemmas.{part_agrees}
-use Rattle.ig_decode.specs.TextAnswers.{text_reading}
-use Rattle.ig_wire.specs.Fields.{string, nullable_string, IsText, IsNullableText, IsNumber, IsString, IsNullableString, IsNodeObject, IsShort, IsOtherByte, StopsObject, StopsString, StopsNullableString, StopsNode, Field, placed, number_field, number_of, object_of, string_of, nullable_string_of, node_of}
-use Rattle.ig_wire.proofs.AgreeLemmas.{Halts, Halted, IsRead, placed_read, same_read, same_stop, by_reader, ok_is, err_is}
+use Rattle.ig_wire.specs.Fields.{IsNumber, IsString, IsNullableString, IsNodeObject, IsShort, StopsObject, StopsString, StopsNullableString, StopsNode, placed, number_of, object_of, string_of, nullable_string_of, node_of}
+use Rattle.ig_wire.proofs.AgreeLemmas.{Halts, Halted, IsRead, placed_read, same_read, same_stop, by_reader, err_is}
 
 -- ---- numbers
 

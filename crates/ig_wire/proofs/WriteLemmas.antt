@@ -1,15 +1,15 @@
 -- Lemmas on writing messages.
-use Rattle.std.proofs.Common.{◌≡◌, ℕ, ◌+◌, ◌<◌, ◌^◌, ℤ, pos, List, [], ◌∷◌, ◌++◌, length, take, drop, Option, Some, None, Result, Ok, Err, refl, sym, ap, ◌∙◌, arith, append_assoc, append-nil, length-append}
+use Rattle.std.proofs.Common.{◌≡◌, ℕ, ◌+◌, ℤ, pos, List, [], ◌∷◌, ◌++◌, length, drop, Option, Some, None, Result, Ok, Err, refl, sym, ap, ◌∙◌, arith, append_assoc, append-nil, length-append}
 use Rattle.std.specs.Prelude.{OnOk, FitsSigned}
-use Rattle.std.specs.Int.{w16, w32, w64, to_le_bytes}
+use Rattle.std.specs.Int.{w16, w32, w64}
 use Rattle.ig_base.specs.declared.NodeId.{NodeId}
 use Rattle.ig_base.specs.Numbers.{LE, number_at}
 use Rattle.ig_base.specs.Frames.{Frame}
-use Rattle.ig_base.proofs.NumberLemmas.{reads_16, reads_64, length-LE_16, length-LE_32, length-LE_64}
+use Rattle.ig_base.proofs.NumberLemmas.{reads_16, reads_64}
 use Rattle.ig_wire.specs.Versions.{version_bytes}
 use Rattle.ig_wire.specs.Fields.{string}
-use Rattle.ig_wire.specs.Greets.{hello_start, thin_client, login_bytes, hello_bytes}
-use Rattle.ig_wire.specs.HelloReplies.{node_bytes, hello_reply_bytes, HasNoCode}
+use Rattle.ig_wire.specs.Greets.{hello_start, thin_client, hello_bytes}
+use Rattle.ig_wire.specs.HelloReplies.{node_bytes, code_bytes, hello_reply_bytes, HasNoCode}
 use Rattle.ig_wire.specs.declared.version.Version.{Version}
 use Rattle.ig_wire.specs.declared.hello.Login.{Login}
 use Rattle.ig_wire.specs.declared.hello_reply.HelloReply.TheVariants.{Accepted, Refused}
@@ -40,6 +40,20 @@ unfolding LE
 ask_parts operation id fields a b =
     let body : List ℕ = LE w16 operation ++ LE w64 id ++ fields in
     (reads_16 operation body 0 a refl, reads_64 id body 2 b refl, refl)
+
+-- ---- the lengths of bodies
+
+pub length-hello-none : (v : Version) → length (hello_bytes v None) ≡ 8
+length-hello-none v = omega (arith, length-append (hello_start v thin_client) [], length-start v thin_client)
+
+pub length-hello-some : (v : Version) (login : Login) → length (hello_bytes v (Some login)) ≡ 8 + length (string login.name) + length (string login.password)
+length-hello-some v login =
+    let name : List ℕ = string login.name in
+    let password : List ℕ = string login.password in
+    omega (arith, length-append (hello_start v thin_client) (name ++ password), length-append name password, length-start v thin_client)
+
+pub length-refused : (v : Version) (text : List ℕ) (n : Option ℤ) → length (hello_reply_bytes (Refused v text n)) ≡ 7 + length (string text) + length (code_bytes n)
+length-refused v text n = omega (arith, length-append (version_bytes v ++ string text) (code_bytes n), length-append (version_bytes v) (string text), length-version v)
 
 -- ---- messages, from the parts that were written one after another
 

@@ -1,7 +1,7 @@
 -- The fields of messages: which bytes spell them, where bytes stop being them, and reading them from
 -- left to right.
-use Rattle.std.specs.Prelude.{◌≡◌, ◌≢◌, ℕ, suc, ◌+◌, ◌-◌, ◌<◌, ◌^◌, ◌⊎◌, ℤ, Bool, List, [], ◌∷◌, ◌++◌, length, drop, Option, None, Some, Result, Ok, Err, ◌==◌, if◌then◌else◌, FitsSigned}
-use Rattle.std.specs.Int.{Width, w32, byte_len}
+use Rattle.std.specs.Prelude.{◌≡◌, ◌≢◌, ℕ, suc, ◌+◌, ◌-◌, ◌<◌, ◌^◌, ◌⊎◌, ℤ, List, [], ◌∷◌, ◌++◌, length, drop, Option, None, Some, Result, Ok, Err, ◌==◌, if◌then◌else◌, FitsSigned}
+use Rattle.std.specs.Int.{Width, byte_len}
 use Rattle.std.specs.Str.{IsUtf8}
 use Rattle.ig_base.specs.Numbers.{LE, number_at, AreBytes}
 use Rattle.ig_base.specs.declared.NodeId.{NodeId}
@@ -76,7 +76,9 @@ StopsByte Right s at = IsShort 1 s at ⊎ IsOtherByte Right s at
 
 -- as data objects stop: another code, or a count or a text that isn't whole or not right
 abbrev pub StopsObject : Code → (List ℕ → ℕ → Cause → Type 0) → List ℕ → ℕ → Type 0
-StopsObject c Wrong s at = IsShort 1 s at ⊎ IsOtherByte (λ b. b ≡ byte_of c) s at ⊎ ((why : Cause) × StopsCoded c Wrong s at why)
+StopsObject c Wrong s at =
+    IsShort 1 s at ⊎ IsOtherByte (λ b. b ≡ byte_of c) s at
+    ⊎ ((why : Cause) × StopsCoded c Wrong s at why)
 
 abbrev pub StopsString : List ℕ → ℕ → Type 0
 StopsString = StopsObject code.Str (StopsCounted StopsTextRun)
@@ -93,7 +95,8 @@ pub record IsLeftOver (s : List ℕ) (at : ℕ) : Type 0 where
   pub here : at ≡ 0
 
 -- a prefix is right, and what follows it stops: at its offset plus the prefix's length
-pub record StopsAfter {A : Type 0} (P : List ℕ → A → Type 0) (Wrong : A → List ℕ → ℕ → Type 0) (s : List ℕ) (at : ℕ) : Type 0 where
+pub record StopsAfter {A : Type 0} (P : List ℕ → A → Type 0) (Wrong : A → List ℕ → ℕ → Type 0)
+    (s : List ℕ) (at : ℕ) : Type 0 where
   pub first : A
   pub prefix : List ℕ
   pub suffix : List ℕ
@@ -104,7 +107,8 @@ pub record StopsAfter {A : Type 0} (P : List ℕ → A → Type 0) (Wrong : A �
   pub there : at ≡ length prefix + further
 
 -- the first part stops, or it is right and the next stops
-abbrev pub StopsThen : {A : Type 0} → (List ℕ → A → Type 0) → (List ℕ → ℕ → Type 0) → (A → List ℕ → ℕ → Type 0) → List ℕ → ℕ → Type 0
+abbrev pub StopsThen : {A : Type 0} → (List ℕ → A → Type 0) → (List ℕ → ℕ → Type 0)
+    → (A → List ℕ → ℕ → Type 0) → List ℕ → ℕ → Type 0
 StopsThen P WrongFirst WrongNext s at = WrongFirst s at ⊎ StopsAfter P WrongNext s at
 
 -- ---- reading
@@ -140,7 +144,8 @@ nullable_string_of s = placed (optional_at (byte_of code.Str) (counted_at text_r
 -- a data object of this code, whose content `content_of` reads
 abbrev pub object_of : {A : Type 0} → Code → (List ℕ → Read A) → List ℕ → Field A
 object_of c content_of [] = Err 0
-object_of c content_of (b ∷ rest) = if b == byte_of c then placed (content_of rest) else Err (suc (length rest))
+object_of c content_of (b ∷ rest) =
+    if b == byte_of c then placed (content_of rest) else Err (suc (length rest))
 
 -- the identifier of a node: a data object of code 10
 abbrev pub node_of : List ℕ → Field NodeId
@@ -156,7 +161,7 @@ whole (Ok (x, [])) = Ok x
 whole (Ok (x, (byte ∷ bytes))) = Err (suc (length bytes))
 whole (Err left) = Err left
 
--- the offset, from the frame's first length byte on, of the byte at which `left` bytes of the body are left
+-- the offset, from the frame's first length byte on, at which `left` bytes of the body are left
 abbrev pub frame_place : List ℕ → ℕ → ℕ
 frame_place body left = 4 + (length body - left)
 

@@ -7,8 +7,8 @@ use Rattle.ig_wire.specs.declared.head.ReplyHead.{ReplyHead}
 use Rattle.ig_wire.specs.declared.unread.ReadFault.{ReadFault}
 use Rattle.ig_wire.specs.declared.unread.ReadFault.TheVariants as fault
 
--- the head, and the offset in the body at which the result begins, or the offset in the frame at which the first wrong item
--- begins, unless memory ran out
+-- the head, and the offset in the body at which the result begins, or the offset in the frame at
+-- which the first wrong item begins, unless memory ran out
 abbrev pub HeadAnswers : Version → List ℕ → Result (ReplyHead × ℕ) ReadFault → Type 0
 HeadAnswers v body (Ok (head, at)) = (at ≤ length body) × (head_of v body ≡ Ok (head, drop at body))
 HeadAnswers v body (Err fault.NoMemory) = Unit {0}

@@ -1,5 +1,5 @@
 -- The heads of replies.
-use Rattle.std.specs.Prelude.{◌≡◌, ◌≢◌, ℕ, ◌+◌, ◌<◌, ◌^◌, ◌⊎◌, ℤ, pos, Bool, true, false, List, [], ◌++◌, length, Option, None, Some, is_some, Result, Ok, Err, if◌then◌else◌, FitsSigned}
+use Rattle.std.specs.Prelude.{◌≡◌, ◌≢◌, ℕ, ◌<◌, ◌^◌, ◌⊎◌, ℤ, pos, Bool, true, false, List, [], ◌++◌, length, Option, None, Some, is_some, Ok, Err, if◌then◌else◌, FitsSigned}
 use Rattle.std.specs.Ordering.{int_eq}
 use Rattle.std.specs.Int.{w16, w32, w64}
 use Rattle.ig_base.specs.Numbers.{LE}
@@ -34,9 +34,11 @@ abbrev pub status_bytes : Option Fault → List ℕ
 status_bytes None = LE w32 (pos 0)
 status_bytes (Some fault) = fault_bytes (Some fault)
 
--- what follows the identifier: from 1.4.0 on the flags, the topology and the fault, where they are there, else the status
+-- what follows the identifier: from 1.4.0 on the flags, the topology and the fault, where they are
+-- there, else the status
 abbrev pub told_bytes : Bool → Option Topology → Option Fault → List ℕ
-told_bytes true told fault = LE w16 (flag_number (is_some told) (is_some fault)) ++ topology_bytes told ++ fault_bytes fault
+told_bytes true told fault =
+    LE w16 (flag_number (is_some told) (is_some fault)) ++ topology_bytes told ++ fault_bytes fault
 told_bytes false told fault = status_bytes fault
 
 -- the identifier of the request, and what follows it
@@ -109,7 +111,9 @@ abbrev pub StopsStatus : ℤ → List ℕ → ℕ → Type 0
 StopsStatus status s at = (status ≢ pos 0) × StopsString s at
 
 abbrev pub StopsTold : Bool → List ℕ → ℕ → Type 0
-StopsTold true s at = StopsThen IsFlags StopsFlags (λ parts. StopsThen (IsTopologyField parts.0) (StopsTopology parts.0) (λ t. StopsFault parts.1)) s at
+StopsTold true s at =
+    StopsThen IsFlags StopsFlags
+    (λ parts. StopsThen (IsTopologyField parts.0) (StopsTopology parts.0) (λ t. StopsFault parts.1)) s at
 StopsTold false s at = StopsThen (IsNumber w32) (IsShort 4) StopsStatus s at
 
 -- the bytes begin with no head
@@ -142,7 +146,10 @@ topology_of true s = do
 -- whether the topology is told, and whether a fault is; other flags don't read
 abbrev pub parts_of : ℤ → Option (Bool × Bool)
 parts_of flags =
-    if int_eq flags (pos 0) then Some (false, false) else (if int_eq flags (pos 1) then Some (false, true) else (if int_eq flags (pos 2) then Some (true, false) else (if int_eq flags (pos 3) then Some (true, true) else None)))
+    if int_eq flags (pos 0) then Some (false, false)
+    else (if int_eq flags (pos 1) then Some (false, true)
+    else (if int_eq flags (pos 2) then Some (true, false)
+    else (if int_eq flags (pos 3) then Some (true, true) else None)))
 
 abbrev pub known_flags : ℕ → List ℕ → Option (Bool × Bool) → Field (Bool × Bool)
 known_flags left rest None = Err left
@@ -152,7 +159,9 @@ abbrev pub flags_of : List ℕ → Field (Bool × Bool)
 flags_of s = number_of w16 s >>= λ flags. known_flags (length s) flags.1 (parts_of flags.0)
 
 abbrev pub status_of : ℤ → List ℕ → Field Told
-status_of status s = if int_eq status (pos 0) then Ok ((None, None), s) else (fault_after status s >>= λ fault. Ok ((None, Some fault.0), fault.1))
+status_of status s =
+    if int_eq status (pos 0) then Ok ((None, None), s)
+    else (fault_after status s >>= λ fault. Ok ((None, Some fault.0), fault.1))
 
 abbrev pub told_of : Bool → List ℕ → Field Told
 told_of true s = do

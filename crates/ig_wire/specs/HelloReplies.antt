@@ -1,5 +1,5 @@
 -- The reply to a hello.
-use Rattle.std.specs.Prelude.{◌≡◌, ◌≢◌, ℕ, zero, suc, ◌<◌, ◌⊎◌, ◌^◌, ℤ, Bool, true, false, List, [], ◌∷◌, ◌++◌, length, Option, None, Some, Result, Ok, Err, ◌==◌, if◌then◌else◌, FitsSigned}
+use Rattle.std.specs.Prelude.{◌≡◌, ◌≢◌, ℕ, suc, ◌<◌, ℤ, Bool, true, false, List, [], ◌∷◌, ◌++◌, length, Option, None, Some, Result, Ok, Err, ◌==◌, if◌then◌else◌, FitsSigned}
 use Rattle.std.specs.Int.{w16, w32}
 use Rattle.ig_base.specs.declared.NodeId.{NodeId}
 use Rattle.ig_base.specs.Numbers.{LE}
@@ -7,7 +7,7 @@ use Rattle.ig_value.specs.declared.Code.TheVariants as code
 use Rattle.ig_value.specs.Table.{byte_of}
 use Rattle.ig_value.specs.Canon.{uuid_bytes}
 use Rattle.ig_wire.specs.Versions.{version_bytes, IsVersion, has_flags}
-use Rattle.ig_wire.specs.Fields.{string, IsText, IsNode, IsString, IsNumber, IsNodeObject, StopsNode, StopsString, StopsByte, IsShort, IsLeftOver, StopsAfter, StopsThen, Field, ◌>>=◌, number_of, string_of, node_of, whole}
+use Rattle.ig_wire.specs.Fields.{string, IsText, IsNode, IsString, IsNumber, IsNodeObject, StopsNode, StopsString, StopsByte, IsShort, IsLeftOver, StopsThen, Field, ◌>>=◌, number_of, string_of, node_of, whole}
 use Rattle.ig_wire.specs.declared.version.Version.{Version}
 use Rattle.ig_wire.specs.declared.hello_reply.HelloReply.{HelloReply}
 use Rattle.ig_wire.specs.declared.hello_reply.HelloReply.TheVariants.{Accepted, Refused}
@@ -74,14 +74,18 @@ IsVersionField s v = IsVersion v × (s ≡ version_bytes v)
 
 -- one of the three numbers isn't whole
 abbrev pub StopsVersion : List ℕ → ℕ → Type 0
-StopsVersion = StopsThen (IsNumber w16) (IsShort 2) (λ major. StopsThen (IsNumber w16) (IsShort 2) (λ minor. IsShort 2))
+StopsVersion =
+    StopsThen (IsNumber w16) (IsShort 2)
+    (λ major. StopsThen (IsNumber w16) (IsShort 2) (λ minor. IsShort 2))
 
 -- one to three bytes are left, or more than four
 abbrev pub StopsCode : List ℕ → ℕ → Type 0
 StopsCode s at = (s ≢ []) × StopsThen (IsNumber w32) (IsShort 4) (λ n. IsLeftOver) s at
 
 abbrev pub StopsRefusal : List ℕ → ℕ → Type 0
-StopsRefusal = StopsThen IsVersionField StopsVersion (λ version. StopsThen IsString StopsString (λ text. StopsCode))
+StopsRefusal =
+    StopsThen IsVersionField StopsVersion
+    (λ version. StopsThen IsString StopsString (λ text. StopsCode))
 
 abbrev pub StopsAcceptance : Bool → List ℕ → ℕ → Type 0
 StopsAcceptance false = IsLeftOver
@@ -119,7 +123,8 @@ refusal_of s = do
 -- a first byte: 0 refuses the hello, and 1 accepts it
 abbrev pub verdict_of : List ℕ → Field Bool
 verdict_of [] = Err 0
-verdict_of (b ∷ s) = if b == 0 then Ok (false, s) else (if b == 1 then Ok (true, s) else Err (suc (length s)))
+verdict_of (b ∷ s) =
+    if b == 0 then Ok (false, s) else (if b == 1 then Ok (true, s) else Err (suc (length s)))
 
 abbrev pub acceptance_of : Bool → List ℕ → Result HelloReply ℕ
 acceptance_of false s = whole (Ok (Accepted None, s))

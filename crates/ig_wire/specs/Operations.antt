@@ -88,7 +88,15 @@ first_version _ = version_1_0
 -- each operation once
 abbrev pub operations : List Operation
 operations =
-    operation.CloseResource ∷ operation.Get ∷ operation.Put ∷ operation.PutIfAbsent ∷ operation.GetAll ∷ operation.PutAll ∷ operation.GetAndPut ∷ operation.GetAndReplace ∷ operation.GetAndRemove ∷ operation.GetAndPutIfAbsent ∷ operation.Replace ∷ operation.ReplaceIfEquals ∷ operation.ContainsKey ∷ operation.ContainsKeys ∷ operation.Clear ∷ operation.ClearKey ∷ operation.ClearKeys ∷ operation.RemoveKey ∷ operation.RemoveIfEquals ∷ operation.RemoveKeys ∷ operation.RemoveAll ∷ operation.GetSize ∷ operation.CacheNames ∷ operation.Create ∷ operation.GetOrCreate ∷ operation.Destroy ∷ operation.PartitionMaps ∷ operation.Scan ∷ operation.NextPage ∷ operation.GetTypeName ∷ operation.RegisterTypeName ∷ operation.GetType ∷ operation.PutType ∷ []
+    operation.CloseResource ∷ operation.Get ∷ operation.Put ∷ operation.PutIfAbsent
+    ∷ operation.GetAll ∷ operation.PutAll ∷ operation.GetAndPut ∷ operation.GetAndReplace
+    ∷ operation.GetAndRemove ∷ operation.GetAndPutIfAbsent ∷ operation.Replace
+    ∷ operation.ReplaceIfEquals ∷ operation.ContainsKey ∷ operation.ContainsKeys
+    ∷ operation.Clear ∷ operation.ClearKey ∷ operation.ClearKeys ∷ operation.RemoveKey
+    ∷ operation.RemoveIfEquals ∷ operation.RemoveKeys ∷ operation.RemoveAll ∷ operation.GetSize
+    ∷ operation.CacheNames ∷ operation.Create ∷ operation.GetOrCreate ∷ operation.Destroy
+    ∷ operation.PartitionMaps ∷ operation.Scan ∷ operation.NextPage ∷ operation.GetTypeName
+    ∷ operation.RegisterTypeName ∷ operation.GetType ∷ operation.PutType ∷ []
 
 -- the operation with this code, if there is one
 abbrev pub operation_at : ℤ → Option Operation

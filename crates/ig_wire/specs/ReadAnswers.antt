@@ -1,4 +1,5 @@
--- The results of the functions that read and take memory, compared with reading as a function of lists.
+-- The results of the functions that read and take memory, compared with reading as a function of
+-- lists.
 use Rattle.std.specs.Prelude.{◌≡◌, ℕ, List, Result, Ok, Err}
 use Rattle.ig_wire.specs.Fields.{in_frame}
 use Rattle.ig_wire.specs.declared.read_error.ReadError.{ReadError}
@@ -16,7 +17,8 @@ abbrev pub ReadAnswers : {X Y : Type 0} → (X → Y) → Result X ReadError →
 ReadAnswers view (Ok x) read = read ≡ Ok (view x)
 ReadAnswers view (Err e) read = Fails e read
 
--- the result is what reading the body gives, with a fault told by its offset in the frame, unless memory ran out
+-- the result is what reading the body gives, with a fault told by its offset in the frame, unless
+-- memory ran out
 abbrev pub MessageAnswers : {X : Type 0} → List ℕ → Result X ReadFault → Result X ℕ → Type 0
 MessageAnswers body (Ok x) read = read ≡ Ok x
 MessageAnswers body (Err fault.NoMemory) read = Unit {0}

@@ -1,5 +1,5 @@
 -- The versions of the protocol.
-use Rattle.std.specs.Prelude.{◌≡◌, ℤ, pos, Bool, List, ℕ, ◌++◌, ◌&&◌, ◌||◌, int_lt, FitsSigned, if◌then◌else◌}
+use Rattle.std.specs.Prelude.{ℤ, pos, Bool, List, ℕ, ◌++◌, ◌&&◌, ◌||◌, int_lt, FitsSigned, if◌then◌else◌}
 use Rattle.std.specs.Ordering.{int_eq}
 use Rattle.std.specs.Int.{w16}
 use Rattle.ig_base.specs.Numbers.{LE}
@@ -32,9 +32,10 @@ is_same a b = int_eq a.major b.major && (int_eq a.minor b.minor && int_eq a.patc
 -- whether the first is the second or an earlier one: by major number, then minor, then patch
 abbrev pub is_up_to : Version → Version → Bool
 is_up_to a b =
-    if int_eq a.major b.major then (if int_eq a.minor b.minor then int_le a.patch b.patch else int_lt a.minor b.minor) else int_lt a.major b.major where
-  int_le : ℤ → ℤ → Bool
-  int_le x y = int_eq x y || int_lt x y
+    if int_eq a.major b.major then (if int_eq a.minor b.minor then int_le a.patch b.patch
+    else int_lt a.minor b.minor) else int_lt a.major b.major where
+      int_le : ℤ → ℤ → Bool
+      int_le x y = int_eq x y || int_lt x y
 
 abbrev pub is_spoken : Version → Bool
 is_spoken v = is_same v version_1_0 || (is_same v version_1_1 || is_same v version_1_4)

@@ -8,7 +8,6 @@ ghost use Rattle.ig_wire.specs.Fields.{placed, end_of as end_read, number_of, st
 ghost use Rattle.ig_wire.specs.FieldAnswers.{FieldAnswers};
 
 use crate::stop::Stop;
-
 use ig_base::{NodeId, get_i16, get_i32, get_i64};
 use ig_decode::text_at;
 use ig_value::Code;

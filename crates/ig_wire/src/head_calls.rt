@@ -40,11 +40,7 @@ pub fn read_head(
 }
 
 /// The head, and the bytes after it.
-fn head_of(
-    alloc: Global,
-    version: Version,
-    bytes: &[u8],
-) -> Result<(ReplyHead, &[u8]), ReadError>
+fn head_of(alloc: Global, version: Version, bytes: &[u8]) -> Result<(ReplyHead, &[u8]), ReadError>
     ensures { ReadAnswers (λ x. (x.0, x.1.now)) result (heads.head_of version bytes.now) }
 {
     let (id, rest) = i64_of(bytes)?;
@@ -128,11 +124,7 @@ fn topology_of(is_told: bool, bytes: &[u8]) -> Result<(Option<Topology>, &[u8]),
 }
 
 /// A fault, where one is told.
-fn fault_of(
-    alloc: Global,
-    is_told: bool,
-    bytes: &[u8],
-) -> Result<(Option<Fault>, &[u8]), ReadError>
+fn fault_of(alloc: Global, is_told: bool, bytes: &[u8]) -> Result<(Option<Fault>, &[u8]), ReadError>
     ensures { ReadAnswers (λ x. (x.0, x.1.now)) result (heads.fault_of is_told bytes.now) }
 {
     if !is_told {

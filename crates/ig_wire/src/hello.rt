@@ -65,10 +65,16 @@ impl fmt::Display for HelloFault {
                 "the client asked for protocol version {version}, which isn't accepted"
             ),
             HelloFault::ClientCode(code) => {
-                write!(f, "the client gave client code {code}, which isn't a thin client's")
+                write!(
+                    f,
+                    "the client gave client code {code}, which isn't a thin client's"
+                )
             }
             HelloFault::Credentials { place } => {
-                write!(f, "the client's login is malformed at offset {place} of its hello")
+                write!(
+                    f,
+                    "the client's login is malformed at offset {place} of its hello"
+                )
             }
         }
     }

@@ -19,6 +19,45 @@ const NODE_LEN: usize = 17;
 /// The length of the first byte and a version.
 const VERSION_END: usize = 7;
 
+/// The length of a code.
+const CODE_LEN: usize = 4;
+
+/// The length of the body of a reply to a hello.
+pub fn hello_reply_len(reply: &HelloReply) -> usize
+    ensures { result ≡ length (replies.hello_reply_bytes reply.now) }
+{
+    match reply {
+        HelloReply::Accepted { node } => 1 + node_len(*node),
+        HelloReply::Refused { text, code, .. } => {
+            VERSION_END + string_len(text.as_str()) + code_len(*code)
+        }
+    }
+}
+
+/// The length of a node's identifier, where it is told.
+#[tactic(auto, unfolding(ig_base::specs::Numbers::LE))]
+fn node_len(node: Option<NodeId>) -> usize
+    ensures exact { result ≡ length (replies.node_bytes node) }
+    ensures small { result ≤ 17 }
+{
+    match node {
+        None => 0,
+        Some(_) => NODE_LEN,
+    }
+}
+
+/// The length of a code, where there is one.
+#[tactic(auto, unfolding(ig_base::specs::Numbers::LE))]
+fn code_len(code: Option<i32>) -> usize
+    ensures exact { result ≡ length (replies.code_bytes code) }
+    ensures small { result ≤ 4 }
+{
+    match code {
+        None => 0,
+        Some(_) => CODE_LEN,
+    }
+}
+
 /// Appends the frame of the reply to a hello that asked for this version. On an error the bytes are as
 /// before.
 ///

@@ -1,6 +1,6 @@
 //! Writes hellos.
 
-ghost use Rattle.std.specs.Prelude.{◌≡◌, ◌≤◌, ◌<◌, ◌+◌, ◌^◌, ◌++◌, length, OnOk, OnErr};
+ghost use Rattle.std.specs.Prelude.{◌≡◌, ◌≤◌, ◌++◌, length, OnOk, OnErr};
 ghost use Rattle.std.specs.Option.{option_copied};
 ghost use Rattle.ig_base.specs.Frames.{Frame, max_body};
 ghost use Rattle.ig_wire.specs.Greets.{MayLogin, hello_bytes, hello_start, thin_client};
@@ -11,6 +11,20 @@ use crate::put::{put_len, put_string, put_version, string_len};
 use crate::version::Version;
 use ig_base::{NoMemory, Octets};
 use std::alloc::Global;
+
+/// The length of a hello's body, which is the same at each version.
+pub fn hello_len(_version: Version, login: Option<&Login>) -> u128
+    ensures { result ≡ length (hello_bytes _version (option_copied login.entry)) }
+{
+    match login {
+        None => LEAST_HELLO as u128,
+        Some(login) => {
+            let name = string_len(login.name.as_str()) as u128;
+            let password = string_len(login.password.as_str()) as u128;
+            LEAST_HELLO as u128 + name + password
+        }
+    }
+}
 
 /// Appends the frame of a hello. On an error the bytes are as before.
 pub fn write_hello(

@@ -1,6 +1,6 @@
 //! Writing the fields of messages.
 
-ghost use Rattle.std.specs.Prelude.{◌≡◌, ◌<◌, ◌^◌, ◌++◌, pos, length, OnOk};
+ghost use Rattle.std.specs.Prelude.{◌≡◌, ◌<◌, ◌+◌, ◌^◌, ◌++◌, pos, length, OnOk};
 ghost use Rattle.std.specs.Int.{w32};
 ghost use Rattle.ig_base.specs.Numbers.{LE};
 ghost use Rattle.ig_wire.specs.Versions.{version_bytes};
@@ -40,7 +40,8 @@ pub(crate) fn put_version(out: &mut Octets, version: Version) -> Result<(), NoMe
 /// The number of bytes of a String: its code, the count and the text.
 #[tactic(auto, unfolding(ig_base::specs::Numbers::LE))]
 pub(crate) fn string_len(text: &str) -> usize
-    ensures { result ≡ length (string text.now) }
+    ensures exact { result ≡ length (string text.now) }
+    ensures small { result < 2 ^ 63 + 5 }
 {
     5 + text.len()
 }

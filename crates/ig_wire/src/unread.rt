@@ -13,7 +13,11 @@ pub struct Unread {
 
 impl fmt::Display for Unread {
     fn fmt<W: fmt::Write>(&self, f: &mut fmt::Formatter<W>) -> fmt::Result {
-        write!(f, "the message is malformed at offset {} of its frame", self.place)
+        write!(
+            f,
+            "the message is malformed at offset {} of its frame",
+            self.place
+        )
     }
 }
 

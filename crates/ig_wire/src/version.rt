@@ -15,13 +15,25 @@ impl Version {
     ghost use Rattle.ig_wire.specs.Versions.{is_same, is_up_to, is_spoken, is_accepted, has_login, has_flags, server_side};
 
     /// The first version.
-    pub const V1_0_0: Version = Version { major: 1, minor: 0, patch: 0 };
+    pub const V1_0_0: Version = Version {
+        major: 1,
+        minor: 0,
+        patch: 0,
+    };
 
     /// Adds a login to the hello.
-    pub const V1_1_0: Version = Version { major: 1, minor: 1, patch: 0 };
+    pub const V1_1_0: Version = Version {
+        major: 1,
+        minor: 1,
+        patch: 0,
+    };
 
     /// Adds the node's identifier to the reply to a hello, and flags and the topology to replies.
-    pub const V1_4_0: Version = Version { major: 1, minor: 4, patch: 0 };
+    pub const V1_4_0: Version = Version {
+        major: 1,
+        minor: 4,
+        patch: 0,
+    };
 
     /// The highest version that is spoken.
     pub const HIGHEST: Version = Version::V1_4_0;
@@ -30,7 +42,9 @@ impl Version {
     pub fn is_spoken(self) -> bool
         ensures { result ≡ is_spoken self }
     {
-        self.is_same(Version::V1_0_0) || self.is_same(Version::V1_1_0) || self.is_same(Version::V1_4_0)
+        self.is_same(Version::V1_0_0)
+            || self.is_same(Version::V1_1_0)
+            || self.is_same(Version::V1_4_0)
     }
 
     /// Whether a server whose highest version is this one accepts the version.
@@ -58,7 +72,11 @@ impl Version {
     pub fn least_reply(self) -> u32
         ensures { result ≡ (server_side self).later }
     {
-        if self.has_flags() { LEAST_REPLY_WITH_FLAGS } else { LEAST_REPLY }
+        if self.has_flags() {
+            LEAST_REPLY_WITH_FLAGS
+        } else {
+            LEAST_REPLY
+        }
     }
 
     /// Whether it is this version.

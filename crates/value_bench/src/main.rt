@@ -182,6 +182,24 @@ fn read(rt: &(impl Clock + AllocGlobal), bytes: &[u8]) -> Result<u128> {
     Ok(nanos)
 }
 
+/// The least times of what is done with a value over some rounds, in nanoseconds.
+struct Measured {
+    reading: u128,
+    writing: u128,
+    showing: u128,
+}
+
+fn times(rt: &(impl Clock + AllocGlobal), rounds: u32, value: &Value) -> Result<Measured> {
+    let (mut reading, mut writing, mut showing) = (u128::MAX, u128::MAX, u128::MAX);
+    for _ in 0..rounds {
+        let mut bytes = Octets::empty(rt.alloc());
+        writing = writing.min(write(rt, value, &mut bytes)?);
+        reading = reading.min(read(rt, bytes.as_slice())?);
+        showing = showing.min(show(rt, value)?);
+    }
+    Ok(Measured { reading, writing, showing })
+}
+
 /// Writes and reads the value in each round.
 fn measure(
     rt: &(impl Print + Eprint + Clock + AllocGlobal),
@@ -190,14 +208,10 @@ fn measure(
     size: i32,
 ) -> Result<()> {
     let value = named(rt.alloc(), name, size)?;
-    let (mut writing, mut reading, mut showing) = (u128::MAX, u128::MAX, u128::MAX);
-    for _ in 0..rounds {
-        let mut bytes = Octets::empty(rt.alloc());
-        writing = writing.min(write(rt, &value, &mut bytes)?);
-        reading = reading.min(read(rt, bytes.as_slice())?);
-        showing = showing.min(show(rt, &value)?);
-    }
+    let times = times(rt, rounds, &value);
     let length = canonical_len(&value);
+    drop(value);
+    let Measured { reading, writing, showing } = times?;
     println!(rt; "{name} of {size}: {length} bytes")?;
     eprintln!(rt; "decode {reading} encode {writing} pieces {showing}")?;
     Ok(())

@@ -1,7 +1,6 @@
-use Rattle.std.proofs.Common.{◌≡◌, ℕ, ◌<◌, length, arith, ap, sym, ◌∙◌, Ok, List}
+use Rattle.std.proofs.Common.{ℕ, arith, ap, sym, ◌∙◌, Ok, List}
 use Rattle.ig_base.specs.Numbers.{AreBytes}
 use Rattle.ig_wire.specs.declared.head.ReplyHead.{ReplyHead}
-use Rattle.ig_wire.specs.Heads.{head_of}
 use Rattle.ig_wire.specs.Fields.{Field}
 use Rattle.ig_wire.proofs.AgreeLemmas.{rest_at}
 use Rattle.ig_wire.proofs.HeadLemmas.{head_read}

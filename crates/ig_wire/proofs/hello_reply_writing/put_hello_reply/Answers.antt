@@ -14,5 +14,5 @@ returns-in_ok-put_version-in-Refused c =
     c.in-Refused.is ∙ ap (Refused c.in-Refused.version c.in-Refused.text) none ∙ ap (λ (l : List ℕ). Refused c.in-Refused.version l None) (sym c.as_str-text.ensures) in
     on_ok c.put_string.result c.put_string.ensures (λ e.
     refused_framed c.args.out.now c.put_len.new.out c.push.new.self c.put_version.new.out c.put_string.new.out c.in-Refused.version text (7 + c.string_len.result)
-    (omega (arith, c.string_len.ensures)) c.in_ok-put_len-in-Refused.ensures c.in_ok-push-in-Refused.ensures.ok c.in_ok-put_version-in-Refused.ensures e
+    (omega (arith, c.string_len.ensures.exact)) c.in_ok-put_len-in-Refused.ensures c.in_ok-push-in-Refused.ensures.ok c.in_ok-put_version-in-Refused.ensures e
     ∙ ap (λ (r : HelloReply). c.args.out.now ++ Frame (hello_reply_bytes r)) (sym same))

@@ -1,4 +1,4 @@
-use Rattle.std.proofs.Common.{◌≡◌, ◌∙◌, ap, List, ℕ, ◌++◌, sym, refl}
+use Rattle.std.proofs.Common.{◌∙◌, ap, List, ℕ, ◌++◌, sym, refl}
 use Rattle.ig_wire.specs.Heads.{head_bytes, head_of}
 use Rattle.ig_wire.specs.declared.head.ReplyHead.{ReplyHead}
 use Rattle.ig_wire.proofs.AgreeLemmas.{ok_is}

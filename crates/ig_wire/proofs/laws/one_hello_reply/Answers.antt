@@ -1,4 +1,4 @@
-use Rattle.std.proofs.Common.{◌≡◌, ◌∙◌, ap, List, ℕ, sym, refl}
+use Rattle.std.proofs.Common.{◌∙◌, ap, sym, refl}
 use Rattle.ig_wire.specs.HelloReplies.{hello_reply_bytes, hello_reply_of}
 use Rattle.ig_wire.proofs.AgreeLemmas.{ok_is}
 use Rattle.ig_wire.proofs.HelloReplyLemmas.{hello_reply_read}
