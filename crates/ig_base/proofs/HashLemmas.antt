@@ -5,7 +5,7 @@ use Rattle.std.proofs.lemmas.List.{map-append, length-append, take_all}
 use Rattle.std.proofs.lemmas.Int.{of_z-to_z}
 use Rattle.std.specs.Int.{w32, cast_signed, cast_unsigned}
 use Rattle.std.proofs.lemmas.List.Sums.{fold-append}
-use Rattle.std.proofs.lemmas.Nat.{mul-mod_first, mul-mod_second, mul-mod, pow-add, pow-mod, mul-pow}
+use Rattle.std.proofs.lemmas.Nat.{mul-mod_first, mul-mod_second, mul-mod, pow-add}
 use Rattle.std.proofs.Math.Nat.{add-mod-mod, mod-add-mod, pow-suc}
 use Rattle.std.specs.Prelude.{nat_lt}
 use Rattle.std.proofs.lemmas.Str.{chars-IsAscii}
@@ -126,29 +126,3 @@ pub hash_factor-append : (a b : List ℕ) → hash_factor (a ++ b) ≡ (hash_fac
 unfolding hash_factor
 hash_factor-append a b =
     ap (λ n. 31 ^ n % 2 ^ 32) (length-append a b) ∙ ap (λ n. n % 2 ^ 32) (pow-add 31 (length a) (length b)) ∙ mul-mod (31 ^ length a) (31 ^ length b) (2 ^ 32)
-
--- four bytes at once
-pub hash_after-four : (hash a b c d : ℕ) → ((hash * 923521) % 2 ^ 32 + (((31 * ((31 * 0 + a) % 2 ^ 32) + b) % 2 ^ 32 * 961) % 2 ^ 32 + (31 * ((31 * 0 + c) % 2 ^ 32) + d) % 2 ^ 32) % 2 ^ 32) % 2 ^ 32
-    ≡ java_step (java_step (java_step (java_step hash a) b) c) d
-hash_after-four hash a b c d = omega arith
-
--- ---- powers by squares
-
-squared : (f p k : ℕ) → (f * (p * p % 2 ^ 32) ^ k) % 2 ^ 32 ≡ (f * p ^ (k + k)) % 2 ^ 32
-squared f p k =
-    let m : ℕ = 2 ^ 32 in
-    sym (mul-mod_second f ((p * p % m) ^ k) m) ∙ ap (λ n. (f * n) % m) (pow-mod (p * p) k m) ∙ mul-mod_second f ((p * p) ^ k) m
-    ∙ ap (λ n. (f * n) % m) (mul-pow p p k ∙ sym (pow-add p k k))
-
--- half of an even power, and of an odd one, by the square
-pub factor-even : (f p n : ℕ) → n % 2 ≡ 0 → (f * (p * p % 2 ^ 32) ^ (n / 2)) % 2 ^ 32 ≡ (f * p ^ n) % 2 ^ 32
-factor-even f p n even = squared f p (n / 2) ∙ ap (λ k. (f * p ^ k) % 2 ^ 32) (let e : n / 2 + n / 2 ≡ n = omega (arith, even) in e)
-
-pub factor-odd : (f p n : ℕ) → n % 2 ≡ 1 → ((f * p) % 2 ^ 32 * (p * p % 2 ^ 32) ^ (n / 2)) % 2 ^ 32 ≡ (f * p ^ n) % 2 ^ 32
-factor-odd f p n odd =
-    let m : ℕ = 2 ^ 32 in
-    let k = n / 2 + n / 2 in
-    squared ((f * p) % m) p (n / 2) ∙ mul-mod_first (f * p) (p ^ k) m ∙ ap (λ j. j % m) (grouped f p (p ^ k) (p ^ suc k) (pow-suc p k))
-    ∙ ap (λ j. (f * p ^ j) % m) (let e : suc k ≡ n = omega (arith, odd) in e) where
-      grouped : (f p q r : ℕ) → r ≡ q * p → (f * p) * q ≡ f * r
-      grouped f p q r e = omega (arith, ap (λ n. f * n) e)

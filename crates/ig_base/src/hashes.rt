@@ -1,6 +1,6 @@
 //! The hashes that make identifiers of names, of complex objects and of their schemas.
 
-ghost use Rattle.std.specs.Prelude.{◌≡◌, ◌+◌, ◌*◌, ◌%◌, ◌^◌, ◌<◌, ◌≤◌, ◌++◌, ◌∷◌, [], ℕ, List, fold, length, IfOk, IfErr};
+ghost use Rattle.std.specs.Prelude.{◌≡◌, ◌+◌, ◌*◌, ◌%◌, ◌^◌, ◌<◌, ◌≤◌, ◌++◌, ℕ, List, fold, length, IfOk, IfErr};
 ghost use Rattle.std.specs.Int.{w32, cast_signed};
 ghost use Rattle.std.specs.Char.Escape.{encode_utf16};
 ghost use Rattle.std.specs.Str.{IsAscii, str_to_ascii_lowercase};
@@ -41,8 +41,8 @@ fn unsigned_hash(text: &str) -> u32
     hash
 }
 
-/// The hash of a text, as Java's `String.hashCode` has it: from 0, each UTF-16 code unit in turn is
-/// added to 31 times the hash so far, modulo 2^32. Takes no memory.
+/// The hash of a text, as Java's `String.hashCode` has it: from 0, each UTF-16 code unit in turn is added
+/// to 31 times the hash so far, modulo 2^32. Takes no memory.
 pub fn text_hash(text: &str) -> i32
     ensures { result ≡ cast_signed w32 (Java (units text.now)) }
 {
@@ -64,8 +64,8 @@ impl fmt::Display for NotAscii {
 
 impl std::error::Error for NotAscii {}
 
-/// The identifier of a type or of a field: the hash of its name in lower case, as [`text_hash`] has
-/// it. Only a name of ASCII has one. Takes no memory.
+/// The identifier of a type or of a field: the hash of its name in lower case, as [`text_hash`] has it.
+/// Only a name of ASCII has one. Takes no memory.
 pub fn name_id(name: &str) -> Result<i32, NotAscii>
     ensures ascii { IfOk result (λ id. IsAscii name.now) }
     ensures hash { IfOk result (λ id.
@@ -91,68 +91,22 @@ fn byte_after(hash: u32, byte: u8) -> u32
     unit_after(hash, i32::from(byte.cast_signed()).cast_unsigned())
 }
 
-/// The hash after four more bytes. What they add doesn't wait for the hash before them.
+/// The hash of a complex object's fields, given as their bytes: from 1, each signed byte in turn is
+/// added to 31 times the hash so far, modulo 2^32. Takes no memory.
 #[tactic(auto, unfolding(crate::specs::Hashes::hash_after))]
-#[inline(always)]
-fn four_after(hash: u32, a: u8, b: u8, c: u8, d: u8) -> u32
-    ensures { result ≡ hash_after hash (a ∷ b ∷ c ∷ d ∷ []) }
-{
-    let first = byte_after(byte_after(0, a), b).wrapping_mul(31 * 31);
-    let added = first.wrapping_add(byte_after(byte_after(0, c), d));
-    hash.wrapping_mul(31 * 31 * 31 * 31).wrapping_add(added)
-}
-
-/// The hash after fewer bytes than four.
-#[tactic(auto, unfolding(crate::specs::Hashes::hash_after))]
-fn rest_after(hash: u32, bytes: &[u8]) -> u32
-    ensures { result ≡ hash_after hash bytes.now }
-{
-    let mut hash = hash;
-    for byte in bytes {
-        hash = byte_after(hash, *byte);
-    }
-    hash
-}
-
-/// The hash after these bytes, where it was `hash` before them: each signed byte in turn is added
-/// to 31 times the hash so far, modulo 2^32. Takes no memory.
-pub fn bytes_hash_after(hash: u32, bytes: &[u8]) -> u32
-    ensures { result ≡ hash_after hash bytes.now }
-{
-    let (mut hash, mut rest) = (hash, bytes);
-    while let [a, b, c, d, after @ ..] = rest {
-        hash = four_after(hash, *a, *b, *c, *d);
-        rest = after;
-    }
-    rest_after(hash, rest)
-}
-
-/// The hash of a complex object's fields, given as their bytes: from 1, as [`bytes_hash_after`] has
-/// it. Takes no memory.
 pub fn bytes_hash(bytes: &[u8]) -> i32
     ensures { result ≡ cast_signed w32 (BytesHash bytes.now) }
 {
-    bytes_hash_after(1, bytes).cast_signed()
-}
-
-/// What this many bytes multiply the hash before them by: 31 for each byte, modulo 2^32.
-pub fn bytes_factor(len: usize) -> u32
-    ensures { (bytes : List ℕ) → length bytes ≡ len → result ≡ hash_factor bytes }
-{
-    let (mut factor, mut power, mut left) = (1u32, 31u32, len);
-    while left > 0 {
-        if left % 2 == 1 {
-            factor = factor.wrapping_mul(power);
-        }
-        power = power.wrapping_mul(power);
-        left /= 2;
+    let mut hash = 1u32;
+    for byte in bytes {
+        hash = byte_after(hash, *byte);
     }
-    factor
+    hash.cast_signed()
 }
 
-/// Laws of the hash over bytes, as a function whose contract they are. The hash after a prefix is
-/// all that the rest needs. It is the hash before, times the factor of the bytes, plus their hash
-/// from 0; so the hash of bytes that were cut anywhere is made of the hashes of the pieces.
+/// Laws of the hash over bytes, as a function whose contract they are. The hash after a prefix is all
+/// that the rest needs. It is the hash before, times the factor of the bytes, plus their hash from 0;
+/// so the hash of bytes that were cut anywhere is made of the hashes of the pieces.
 pub fn hash_composes()
     ensures appended { (hash : ℕ) (a b : List ℕ)
         → hash_after hash (a ++ b) ≡ hash_after (hash_after hash a) b }
@@ -180,8 +134,8 @@ fn fnv_id(hash: u32, id: i32) -> u32
     fnv_byte(fnv_byte(fnv_byte(fnv_byte(hash, a), b), c), d)
 }
 
-/// The identifier of the schema whose fields have these identifiers, in order: the 32-bit FNV-1a
-/// hash of their little-endian bytes, and 0 without fields. Takes no memory.
+/// The identifier of the schema whose fields have these identifiers, in order: the 32-bit FNV-1a hash
+/// of their little-endian bytes, and 0 without fields. Takes no memory.
 #[tactic(auto, unfolding(crate::specs::Hashes::Fnv))]
 pub fn schema_id(ids: &[i32]) -> i32
     ensures { result ≡ cast_signed w32 (Fnv ids.now) }

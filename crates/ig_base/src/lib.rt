@@ -25,10 +25,7 @@ mod text;
 pub use boxed::Boxed;
 pub use entry::Entry;
 pub use frames::{frame_is_read, frames_follow, one_cut};
-pub use hashes::{
-    NotAscii, bytes_factor, bytes_hash, bytes_hash_after, hash_composes, name_id, schema_id,
-    text_hash,
-};
+pub use hashes::{NotAscii, bytes_hash, hash_composes, name_id, schema_id, text_hash};
 pub use header::{
     COMPACT_FOOTER, Footer, HAS_SCHEMA, Header, ONE_BYTE_OFFSETS, RAW_DATA, TWO_BYTE_OFFSETS,
     USER_TYPE,
