@@ -1,12 +1,12 @@
 //! A measure as an output: it counts the bytes, hashes them where it has a digest, and keeps none.
 
 ghost use Rattle.std.specs.Prelude.{◌≡◌, ◌*◌, ◌<◌, ◌≤◌, ◌+◌, ◌-◌, ◌^◌, List, ℕ, length, IsTrue, IsFalse, IfSome, IsNone};
+ghost use Rattle.ig_base.specs.Hashes.{java_step, sign_extension};
 ghost use Rattle.ig_encode.specs.MeasureOutput.{measured_after, measured_empty, measured_longer, measure_after, count_after, no_length, no_digest, digest_after, counting_start, hashing_start, fresh_of};
 
 use crate::length::Length;
 use crate::measure::{Digest, Measure};
 use crate::output::Output;
-use ig_base::{bytes_factor, bytes_hash_after};
 
 impl Measure {
     /// The measure of no bytes, which only counts.
@@ -131,10 +131,25 @@ fn compose(digest: &mut Digest, more: &Digest)
     digest.pow = digest.pow.wrapping_mul(more.pow);
 }
 
+/// The hash after one more byte, a signed number.
+fn byte_after(hash: u32, byte: u8) -> u32
+    ensures { result ≡ java_step hash (sign_extension byte) }
+{
+    let signed = i32::from(byte.cast_signed()).cast_unsigned();
+    hash.wrapping_mul(31).wrapping_add(signed)
+}
+
 /// Hashes more bytes.
+#[tactic(auto, unfolding(crate::specs::MeasureOutput::digest_after))]
 fn hash_more(digest: &mut Digest, bytes: &[u8])
     ensures { digest.new ≡ digest_after digest.old bytes.now }
 {
-    digest.pow = digest.pow.wrapping_mul(bytes_factor(bytes.len()));
-    digest.sum = bytes_hash_after(digest.sum, bytes);
+    let mut pow = digest.pow;
+    let mut sum = digest.sum;
+    for byte in bytes {
+        pow = pow.wrapping_mul(31);
+        sum = byte_after(sum, *byte);
+    }
+    digest.pow = pow;
+    digest.sum = sum;
 }
