@@ -1,8 +1,8 @@
 -- How many bytes an object has, and an object that is written over a slice of its length.
-use Rattle.std.proofs.Common.{◌≡◌, ℕ, suc, ◌+◌, ◌-◌, ◌*◌, ◌%◌, ◌^◌, ◌<◌, ◌≤◌, ℤ, pos, None, List, [], ◌∷◌, ◌++◌, length, map, take, drop, get_or, refl, sym, ap, ◌∙◌, arith, append_assoc, length-append, length-take-le}
+use Rattle.std.proofs.Common.{◌≡◌, ℕ, suc, ◌+◌, ◌-◌, ◌*◌, ◌%◌, ◌^◌, ◌<◌, ◌≤◌, ℤ, pos, Option, Some, None, List, [], ◌∷◌, ◌++◌, length, map, take, drop, get_or, refl, sym, ap, ◌∙◌, arith, append_assoc, length-append, length-take-le, drop_of_length-le, SomeIff, IfSome}
 use Rattle.std.specs.Int.{Width, w8, w16, w32, byte_len}
 use Rattle.std.specs.List.{flat_map}
-use Rattle.std.proofs.lemmas.List.{append-nil, take_all, drop_of_length-le}
+use Rattle.std.proofs.lemmas.List.{append-nil, take_all}
 use Rattle.std.proofs.lemmas.Grind.{take_at_read}
 use Rattle.ig_base.specs.Numbers.{LE}
 use Rattle.ig_base.specs.Headers.{header_bytes}
@@ -13,12 +13,13 @@ use Rattle.ig_value.specs.Canon.{Canon}
 use Rattle.ig_value.specs.Objects.{named_footer, last_of, object_bytes}
 use Rattle.ig_encode.specs.declared.length.Length.{Length}
 use Rattle.ig_encode.specs.declared.measure.Measure.{Measure}
+use Rattle.ig_encode.specs.declared.span.Extent.{Extent}
 use Rattle.ig_encode.specs.declared.span.OffsetWidth.{OffsetWidth}
 use Rattle.ig_encode.specs.declared.span.OffsetWidth.TheVariants.{One, Two, Four}
 use Rattle.ig_encode.specs.declared.window.Window.{Window}
-use Rattle.ig_encode.specs.MeasureOutput.{measure_after, count_after}
+use Rattle.ig_encode.specs.MeasureOutput.{measure_after, count_after, no_length}
 use Rattle.ig_encode.specs.WindowOutput.{window_after}
-use Rattle.ig_encode.specs.Spans.{type_of, least_width, field_offsets, entry_size, canonical_header, field_footer, least_footer}
+use Rattle.ig_encode.specs.Spans.{type_of, least_width, field_offsets, entry_size, canonical_header, extent_of, field_footer, least_footer}
 use Rattle.ig_encode.proofs.OutputLemmas.{length-flat_wide}
 use Rattle.ig_encode.proofs.SpanLemmas.{offsets_more, offsets_len, last_more, object_split, header_len, only_counted}
 
@@ -44,10 +45,13 @@ named_size w (id ∷ ids) [] = omega arith
 named_size w [] (n ∷ ns) = omega (arith, entry_then w (pos 0) n (named_footer (type_of w) [] ns), named_size w [] ns)
 named_size w (id ∷ ids) (n ∷ ns) = omega (arith, entry_then w id n (named_footer (type_of w) ids ns), named_size w ids ns)
 
+compact_size : (w : OffsetWidth) (schema : ℤ) → byte_len (type_of w) ≡ entry_size w (Compact schema)
+compact_size w schema = omega arith
+
 pub footer_size : (w : OffsetWidth) (shape : Shape) (fields : List Value) → length (field_footer (type_of w) shape fields) ≡ length fields * entry_size w shape
 footer_size w (Named ids) fields = named_size w ids (field_offsets fields) ∙ ap (λ (n : ℕ). n * (4 + byte_len (type_of w))) (offsets_len fields)
 footer_size w (Compact schema) fields =
-    length-flat_wide (λ (n : ℕ). LE (type_of w) (pos n)) (byte_len (type_of w)) (offset_size w) (field_offsets fields) ∙ ap (λ (n : ℕ). n * byte_len (type_of w)) (offsets_len fields)
+    length-flat_wide (λ (n : ℕ). LE (type_of w) (pos n)) (byte_len (type_of w)) (offset_size w) (field_offsets fields) ∙ ap (λ (n : ℕ). n * byte_len (type_of w)) (offsets_len fields) ∙ ap (λ (n : ℕ). length fields * n) (compact_size w schema)
 
 -- the bytes of an object's three parts
 pub object_size : (bits : ℕ) (type : ℤ) (shape : Shape) (fields : List Value) → length (103 ∷ object_bytes bits type shape (map Canon fields)) ≡ 24 + (length (flat_map Canon fields) + length (least_footer shape fields))
@@ -56,7 +60,24 @@ object_size bits type shape fields =
     let F = flat_map Canon fields in
     omega (arith, ap length (object_split bits type shape fields), length-append H (F ++ least_footer shape fields), length-append F (least_footer shape fields), header_len (canonical_header bits type shape (map Canon fields)))
 
+-- the footer's length, by the extent of the fields
+pub footer_counted : (shape : Shape) (fields : List Value) (extent : Extent) (entry : ℕ) → extent ≡ extent_of fields → entry ≡ entry_size extent.last.width shape → length fields * entry ≡ length (least_footer shape fields)
+footer_counted shape fields extent entry is size =
+    let width : extent.last.width ≡ least_width (last_of (field_offsets fields)) = ap (λ (e : Extent). e.last.width) is in
+    ap (λ (n : ℕ). length fields * n) size ∙ ap (λ (w : OffsetWidth). length fields * entry_size w shape) width ∙ sym (footer_size (least_width (last_of (field_offsets fields))) shape fields)
+
 -- ---- counting
+
+-- a length whose high number is 0
+pub length_low : (n : ℕ) (l : Length) → l ≡ count_after no_length n → l.high ≡ 0 → l.low ≡ n
+length_low n l is none =
+    let low : l.low ≡ (count_after no_length n).low = ap (λ (k : Length). k.low) is in
+    let high : l.high ≡ (count_after no_length n).high = ap (λ (k : Length). k.high) is in
+    omega arith
+
+pub some_is : (found : Option ℕ) (fits : Type 0) (n m : ℕ) → SomeIff found fits n → n ≡ m → IfSome found (λ k. k ≡ m)
+some_is None fits n m is e = tt
+some_is (Some k) fits n m is e = is.1 ∙ e
 
 same_length : (n m : Length) → n.low ≡ m.low → n.high ≡ m.high → n ≡ m
 same_length n m low high = ap (λ (k : ℕ). record { low = k; high = n.high }) low ∙ ap (λ (k : ℕ). record { low = m.low; high = k }) high
@@ -96,9 +117,12 @@ filled_whole into bytes same =
 
 -- what is filled is what was put, as far as there is room
 pub filled_length : (into bytes : List ℕ) → length bytes ≤ length into → (window_after fresh_window into bytes).0.filled ≡ length bytes
-filled_length into bytes le = ap length (take_all (length into - 0) bytes (omega arith))
+filled_length into bytes le = omega (arith, ap length (take_all (length into - 0) bytes (omega arith)))
 
 -- the header, the fields and the footer, each written over its part of a slice
 pub object_written : (bits : ℕ) (type : ℤ) (shape : Shape) (fields : List Value) (head room footer : List ℕ) → head ≡ 103 ∷ header_bytes (canonical_header bits type shape (map Canon fields)) → room ≡ flat_map Canon fields → footer ≡ least_footer shape fields →
     head ++ (room ++ footer) ≡ 103 ∷ object_bytes bits type shape (map Canon fields)
 object_written bits type shape fields head room footer h r f = rw (h, r, f) (ap (λ (l : List ℕ). 103 ∷ l) (sym (object_split bits type shape fields)))
+
+pub from_start : (w : Window) → w.skip ≡ 0 → w.filled ≡ 0 → w ≡ fresh_window
+from_start w skip filled = ap (λ (n : ℕ). record { skip = n; filled = w.filled }) skip ∙ ap (λ (n : ℕ). record { skip = 0; filled = n }) filled

@@ -82,6 +82,7 @@ pub(crate) fn fill_pairs(pairs: &[(Value, Value)], out: &mut Window, into: &mut 
 
 /// Puts an object, which has these fields.
 #[cycle(fill)]
+#[inline(never)]
 fn fill_object(object: &Object, fields: &[Value], out: &mut Window, into: &mut [u8])
     requires { fields.now ≡ object.now.fields }
     ensures { (out.new, into.new) ≡ window_after out.old into.old (103 ∷ object_bytes
@@ -104,6 +105,7 @@ fn fill_object(object: &Object, fields: &[Value], out: &mut Window, into: &mut [
 
 /// Puts the code and the header of an object, which has these fields. They aren't looked at where
 /// none of its bytes is wanted.
+#[inline(never)]
 fn put_head(
     object: &Object,
     fields: &[Value],

@@ -72,6 +72,7 @@ fn measure_pairs(pairs: &[(Value, Value)], out: &mut Measure)
 
 /// Measures an object, which has these fields. A measure that only counts needs no byte of it.
 #[cycle(measure)]
+#[inline(never)]
 fn measure_object(object: &Object, fields: &[Value], out: &mut Measure)
     requires { fields.now ≡ object.now.fields }
     ensures { out.new ≡ measure_after out.old (103 ∷ object_bytes object.now.bits
@@ -111,6 +112,7 @@ pub(crate) fn measure_extent(fields: &[Value]) -> Extent
 
 /// Measures the fields of an object and its footer, by measures that hash.
 #[cycle(measure)]
+#[inline(never)]
 fn measure_span(shape: &Shape, fields: &[Value]) -> Span
     ensures { result ≡ span_of hashing_start shape.now fields.now }
 {

@@ -1,5 +1,4 @@
 use Rattle.std.proofs.Common.{rules, ◌+◌, ◌*◌, ◌%◌, ◌^◌, ◌<◌, length, refl, sym, ap, ◌∙◌, arith}
-use Rattle.std.proofs.lemmas.Bool.{eqb-true, eqb-false}
 use Rattle.std.specs.Int.{w32}
 use Rattle.std.specs.List.{flat_map}
 use Rattle.ig_base.specs.Numbers.{LE}
@@ -11,12 +10,11 @@ use Rattle.ig_encode.proofs.object.header_of.Goals as goal
 pub returns-then-count-eq0 : goal.returns-then-count-eq0
 returns-then-count-eq0 c =
     header_empty c.args.object.now.bits c.args.object.now.type_id c.args.object.now.shape c.args.object.now.fields c.header_alone.result
-    (sym (ap length c.as_slice.ensures) ∙ eqb-true (length c.as_slice.result.now) 0 c.if-count-eq0.true) (search rules) c.header_alone.ensures
+    (sym (ap length c.as_slice-count.ensures) ∙ c.if-count-eq0.true) (search rules) c.header_alone.ensures
 
-pub returns-else-count-eq0 : goal.returns-else-count-eq0
-returns-else-count-eq0 c =
-    let more = eqb-false (length c.as_slice.result.now) 0 c.if-count-eq0.false in
-    let some : 0 < length c.args.object.now.fields = omega (arith, more, ap length c.as_slice.ensures) in
+pub returns : goal.returns
+returns c =
+    let some : 0 < length c.args.object.now.fields = omega (arith, c.if-count-eq0.false, ap length c.as_slice-count.ensures) in
     let hash = c.hash_of.ensures (flat_map Canon c.args.object.now.fields) c.requires.fields in
     let size = footer_size c.args.width c.args.object.now.shape c.args.object.now.fields in
     header_right c.args.object.now.bits c.args.object.now.type_id c.args.object.now.shape c.args.object.now.fields c.args.fields.now c.args.width _ _ _ _ c.requires.fields c.requires.width some refl c.flags_of.ensures (signed_again c.args.object.now.type_id (search rules))
