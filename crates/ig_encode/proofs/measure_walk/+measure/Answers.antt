@@ -1,7 +1,9 @@
-use Rattle.std.proofs.Common.{List, ◌∷◌, length, map, take, refl, sym, ap, ◌∙◌}
+use Rattle.std.proofs.Common.{List, ◌∷◌, length, map, take, refl, sym, ap, ◌∙◌, ◌≤◌, arith}
 use Rattle.std.specs.List.{flat_map}
 use Rattle.ig_value.specs.declared.value.Value.TheVariants as value
 use Rattle.ig_value.specs.Canon.{Canon}
+use Rattle.ig_value.specs.Limits.{Depth, greatest, pair_depth}
+use Rattle.ig_value.proofs.DepthLemmas.{greatest_item, Depth_objects, Depth_collection, Depth_enums, Depth_map, Depth_object}
 use Rattle.ig_encode.specs.ListBytes.{pair_bytes}
 use Rattle.ig_value.specs.Objects.{object_bytes}
 use Rattle.ig_value.specs.declared.value.Value.{Value}
@@ -40,22 +42,18 @@ measure_value-returns-in-Enums t c =
 
 pub measure_value-returns-in-Object : goal.measure_value-returns-in-Object
 measure_value-returns-in-Object t c =
-    let o = c.get-object.result.now in
-    c.measure_object.ensures ∙ ap (λ (xs : List Value). measure_after c.args.out.now (103 ∷ object_bytes o.bits o.type_id o.shape (map Canon xs))) c.as_slice.ensures
-    ∙ ap (measure_after c.args.out.now) (sym (Canon_object c.args.value.now o (c.in-Object.is ∙ ap value.Object (sym c.get-object.ensures))))
+    let o = c.get.result.now in
+    c.measure_object.ensures ∙ ap (measure_after c.args.out.now) (sym (Canon_object c.args.value.now o (c.in-Object.is ∙ ap value.Object (sym c.get.ensures))))
 
 pub measure_object-returns-in-None : goal.measure_object-returns-in-None
-measure_object-returns-in-None t c = c.count_object.ensures c.args.object.now.bits c.args.object.now.type_id
+measure_object-returns-in-None t c =
+    let o = c.args.object.now in
+    c.count_object.ensures o.bits o.type_id ∙ ap (λ (xs : List Value). measure_after c.args.out.now (103 ∷ object_bytes o.bits o.type_id o.shape (map Canon xs))) c.as_slice-fields.ensures
 
 pub measure_object-put_measured-requires : goal.measure_object-put_measured-requires
 measure_object-put_measured-requires t c =
     let o = c.args.object.now in
-    c.measure_span.ensures ∙ ap (span_of hashing_start o.shape) c.requires ∙ ap (λ (m : Measure). span_of m o.shape o.fields) (sym (fresh_hashing c.args.out.now _ c.in-Some.is))
-
-pub measure_object-returns-in-Some : goal.measure_object-returns-in-Some
-measure_object-returns-in-Some t c =
-    let o = c.args.object.now in
-    c.put_measured.ensures ∙ ap (λ (xs : List Value). measure_after c.args.out.now (103 ∷ object_bytes o.bits o.type_id o.shape (map Canon xs))) (sym c.requires)
+    c.measure_span-span.ensures ∙ ap (span_of hashing_start o.shape) c.as_slice-fields.ensures ∙ ap (λ (m : Measure). span_of m o.shape o.fields) (sym (fresh_hashing c.args.out.now _ c.in-Some.is))
 
 pub measure_extent-loop-field-init : goal.measure_extent-loop-field-init
 measure_extent-loop-field-init t c = record { counted = c.counting-measure.ensures ∙ measure_none counting_start; last = refl; }
@@ -89,3 +87,62 @@ pub measure_span-loop-index-preserved : goal.measure_span-loop-index-preserved
 measure_span-loop-index-preserved t c =
     span_more hashing_start c.args.shape.now c.args.fields.now c.loop-index.index c.index-fields-index.result c.loop-index.span c.note_entry.new.span c.measure_value.new.out c.loop-index-test.true c.index-fields-index.is refl c.loop-index.invariant
     c.note_entry.ensures c.measure_value.ensures
+
+pub measure_value-measure_values-requires : goal.measure_value-measure_values-requires
+measure_value-measure_values-requires t c =
+    let d = Depth_objects c.args.value.now c.in-Objects.type_id c.in-Objects.items c.in-Objects.is in
+    let same = ap (λ (l : List Value). greatest (map Depth l)) c.as_slice-items.ensures in
+    (omega (arith, same), tt)
+
+pub measure_value-measure_values-requires-in-Collection : goal.measure_value-measure_values-requires-in-Collection
+measure_value-measure_values-requires-in-Collection t c =
+    let d = Depth_collection c.args.value.now c.in-Collection.kind c.in-Collection.items c.in-Collection.is in
+    let same = ap (λ (l : List Value). greatest (map Depth l)) c.as_slice-items-in-Collection.ensures in
+    (omega (arith, same), tt)
+
+pub measure_value-measure_values-requires-in-Enums : goal.measure_value-measure_values-requires-in-Enums
+measure_value-measure_values-requires-in-Enums t c =
+    let d = Depth_enums c.args.value.now c.in-Enums.type_id c.in-Enums.items c.in-Enums.is in
+    let same = ap (λ (l : List Value). greatest (map Depth l)) c.as_slice-items-in-Enums.ensures in
+    (omega (arith, same), tt)
+
+pub measure_value-measure_pairs-requires : goal.measure_value-measure_pairs-requires
+measure_value-measure_pairs-requires t c =
+    let d = Depth_map c.args.value.now c.in-Map.kind c.in-Map.pairs c.in-Map.is in
+    let same = ap (λ (l : List (Value × Value)). greatest (map pair_depth l)) c.as_slice-pairs.ensures in
+    (omega (arith, same), tt)
+
+pub measure_value-measure_object-requires : goal.measure_value-measure_object-requires
+measure_value-measure_object-requires t c =
+    let d = Depth_object c.args.value.now c.get.result.now (c.in-Object.is ∙ ap value.Object (sym c.get.ensures)) in
+    (omega arith, tt)
+
+pub measure_object-measure_extent-extent-requires : goal.measure_object-measure_extent-extent-requires
+measure_object-measure_extent-extent-requires t c =
+    let same = ap (λ (l : List Value). greatest (map Depth l)) c.as_slice-fields.ensures in
+    (omega (arith, same), tt)
+
+pub measure_object-measure_span-span-requires : goal.measure_object-measure_span-span-requires
+measure_object-measure_span-span-requires t c =
+    let same = ap (λ (l : List Value). greatest (map Depth l)) c.as_slice-fields.ensures in
+    (omega (arith, same), tt)
+
+pub measure_values-measure_value-requires : goal.measure_values-measure_value-requires
+measure_values-measure_value-requires t c =
+    (omega (arith, greatest_item Depth c.args.values.now c.loop-value.value-index c.value-item.result c.loop-value-test.true, ap Depth c.value-item.is), tt)
+
+pub measure_extent-measure_value-requires : goal.measure_extent-measure_value-requires
+measure_extent-measure_value-requires t c =
+    (omega (arith, greatest_item Depth c.args.fields.now c.loop-field.field-index c.field-item.result c.loop-field-test.true, ap Depth c.field-item.is), tt)
+
+pub measure_span-measure_value-requires : goal.measure_span-measure_value-requires
+measure_span-measure_value-requires t c =
+    (omega (arith, greatest_item Depth c.args.fields.now c.loop-index.index c.index-fields-index.result c.loop-index-test.true, ap Depth c.index-fields-index.is), tt)
+
+pub measure_pairs-measure_value-requires : goal.measure_pairs-measure_value-requires
+measure_pairs-measure_value-requires t c =
+    (omega (arith, greatest_item pair_depth c.args.pairs.now c.loop-key.key-index c.loop-key-item.result c.loop-key-test.true, ap pair_depth c.loop-key-item.is), tt)
+
+pub measure_pairs-measure_value-requires-in-loop-key : goal.measure_pairs-measure_value-requires-in-loop-key
+measure_pairs-measure_value-requires-in-loop-key t c =
+    (omega (arith, greatest_item pair_depth c.args.pairs.now c.loop-key.key-index c.loop-key-item.result c.loop-key-test.true, ap pair_depth c.loop-key-item.is), tt)
