@@ -2,8 +2,8 @@
 use Rattle.std.proofs.Common.{◌≡◌, ℕ, suc, ◌+◌, ◌-◌, ◌*◌, ◌%◌, ◌^◌, ◌<◌, ◌≤◌, ℤ, pos, Option, Some, None, List, [], ◌∷◌, ◌++◌, length, map, take, drop, get_or, refl, sym, ap, ◌∙◌, arith, append_assoc, length-append, length-take-le, drop_of_length-le, SomeIff, IfSome}
 use Rattle.std.specs.Int.{Width, w8, w16, w32, byte_len}
 use Rattle.std.specs.List.{flat_map}
-use Rattle.std.proofs.lemmas.List.{append-nil, take_all}
-use Rattle.std.proofs.lemmas.Grind.{take_at_read}
+use Rattle.std.proofs.lemmas.List.{append-nil, take_all, take-append-drop}
+use Rattle.std.proofs.lemmas.Grind.{take_at_read, flat_map-append}
 use Rattle.ig_base.specs.Numbers.{LE}
 use Rattle.ig_base.specs.Headers.{header_bytes}
 use Rattle.ig_value.specs.declared.object.Shape.{Shape}
@@ -103,6 +103,12 @@ pub last_next : (fields : List Value) (i : ℕ) (x : Value) → i < length field
 last_next fields i x lt =
     ap (λ (xs : List Value). last_of (field_offsets xs)) (take_at_read fields i x lt).1 ∙ ap last_of (offsets_more (take i fields) (get_or fields i x))
     ∙ last_more (field_offsets (take i fields)) (24 + length (flat_map Canon (take i fields)))
+
+-- the first items have no more bytes than all
+pub front_length : {A : Type 0} (h : A → List ℕ) (xs : List A) (i : ℕ) → length (flat_map h (take i xs)) ≤ length (flat_map h xs)
+front_length h xs i =
+    let all : flat_map h xs ≡ flat_map h (take i xs) ++ flat_map h (drop i xs) = ap (flat_map h) (sym (take-append-drop i xs)) ∙ flat_map-append h (take i xs) (drop i xs) in
+    omega (arith, ap length all, length-append (flat_map h (take i xs)) (flat_map h (drop i xs)))
 
 -- ---- a slice of the length of what is written
 

@@ -45,10 +45,7 @@ pub(crate) fn fill_value(value: &Value, out: &mut Window, into: &mut [u8])
             put_typed(Code::Enums, type_id, items.len(), out, into);
             fill_values(items, out, into);
         }
-        Value::Object(object) => {
-            let object = object.get();
-            fill_object(object, object.fields.as_slice(), out, into);
-        }
+        Value::Object(object) => fill_object(object.get(), out, into),
         _ => put_leaf(value, out, into),
     }
 }
@@ -80,14 +77,14 @@ pub(crate) fn fill_pairs(pairs: &[(Value, Value)], out: &mut Window, into: &mut 
     }
 }
 
-/// Puts an object, which has these fields.
+/// Puts an object.
 #[cycle(fill)]
 #[inline(never)]
-fn fill_object(object: &Object, fields: &[Value], out: &mut Window, into: &mut [u8])
-    requires { fields.now ≡ object.now.fields }
+fn fill_object(object: &Object, out: &mut Window, into: &mut [u8])
     ensures { (out.new, into.new) ≡ window_after out.old into.old (103 ∷ object_bytes
-        object.now.bits object.now.type_id object.now.shape (map Canon fields.now)) }
+        object.now.bits object.now.type_id object.now.shape (map Canon object.now.fields)) }
 {
+    let fields = object.fields.as_slice();
     let extent = measure_extent(fields);
     if let Some(len) = object_len(&object.shape, fields, &extent) {
         if out.count(len) {

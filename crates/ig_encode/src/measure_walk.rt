@@ -41,9 +41,7 @@ pub(crate) fn measure_value(value: &Value, out: &mut Measure)
             put_typed(Code::Enums, type_id, items.len(), out, &mut none);
             measure_values(items, out);
         }
-        Value::Object(object) => {
-            measure_object(object.get(), out);
-        }
+        Value::Object(object) => measure_object(object.get(), out),
         _ => put_leaf(value, out, &mut none),
     }
 }
