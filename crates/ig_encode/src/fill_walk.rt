@@ -114,7 +114,7 @@ fn put_head(
     requires width { width ≡ least_width (last_of (field_offsets fields.now)) }
     ensures { (out.new, into.new) ≡ window_after out.old into.old (103 ∷ header_bytes
         (canonical_header object.now.bits object.now.type_id object.now.shape
-            (map Canon fields.now))) }
+        (map Canon fields.now))) }
 {
     if out.count(HEADER_LEN) {
         return;

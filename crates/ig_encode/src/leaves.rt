@@ -227,7 +227,7 @@ fn put_optionals<T: Spell, S: Output>(
 )
     ensures { (out.new, into.new)
         ≡ S.after out.old into.old (byte_of code
-            ∷ array_bytes (optional_bytes (byte_of inner) T.bytes) parts.now) }
+        ∷ array_bytes (optional_bytes (byte_of inner) T.bytes) parts.now) }
 {
     let count = Count { items: parts.len() };
     put_scalar(code, &count, out, into);

@@ -1,4 +1,4 @@
-use Rattle.std.proofs.Common.{List, ◌∷◌, map, refl, sym, arith}
+use Rattle.std.proofs.Common.{◌∷◌, map, refl, sym, arith}
 use Rattle.ig_base.specs.Headers.{header_bytes}
 use Rattle.ig_value.specs.Canon.{Canon}
 use Rattle.ig_encode.specs.Spans.{canonical_header}

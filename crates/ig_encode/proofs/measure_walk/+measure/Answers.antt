@@ -1,4 +1,4 @@
-use Rattle.std.proofs.Common.{List, ◌∷◌, length, map, take, refl, sym, ap, ◌∙◌, ◌≤◌, arith}
+use Rattle.std.proofs.Common.{List, ◌∷◌, length, map, take, refl, sym, ap, ◌∙◌, arith}
 use Rattle.std.specs.List.{flat_map}
 use Rattle.ig_value.specs.declared.value.Value.TheVariants as value
 use Rattle.ig_value.specs.Canon.{Canon}
@@ -56,7 +56,7 @@ measure_object-put_measured-requires t c =
     c.measure_span-span.ensures ∙ ap (span_of hashing_start o.shape) c.as_slice-fields.ensures ∙ ap (λ (m : Measure). span_of m o.shape o.fields) (sym (fresh_hashing c.args.out.now _ c.in-Some.is))
 
 pub measure_extent-loop-field-init : goal.measure_extent-loop-field-init
-measure_extent-loop-field-init t c = record { counted = c.counting-measure.ensures ∙ measure_none counting_start; last = refl; }
+measure_extent-loop-field-init t c = record { counted = c.counting-measure.ensures ∙ measure_none counting_start; last = refl }
 
 pub measure_extent-loop-field-preserved : goal.measure_extent-loop-field-preserved
 measure_extent-loop-field-preserved t c = record {

@@ -18,7 +18,7 @@ pub header_of-header-requires : goal.header_of-header-requires
 header_of-header-requires c =
     let is : c.args.span.now ≡ span_of hashing_start c.args.object.now.shape c.args.object.now.fields =
     c.requires ∙ ap (λ (m : Measure). span_of m c.args.object.now.shape c.args.object.now.fields) (fresh_hashing c.args.out.now _ c.in-Some.is) in
-    record { fields = ap (λ (z : Span). z.fields) is; width = ap (λ (z : Span). z.last.width) is; }
+    record { fields = ap (λ (z : Span). z.fields) is; width = ap (λ (z : Span). z.last.width) is }
 
 pub returns-in-Some : goal.returns-in-Some
 returns-in-Some c =

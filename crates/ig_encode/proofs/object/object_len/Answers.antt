@@ -1,4 +1,4 @@
-use Rattle.std.proofs.Common.{◌≡◌, ◌+◌, ◌*◌, length, ap, ◌∙◌, arith}
+use Rattle.std.proofs.Common.{◌≡◌, ◌*◌, length, ap, arith}
 use Rattle.std.specs.List.{flat_map}
 use Rattle.ig_value.specs.Canon.{Canon}
 use Rattle.ig_encode.specs.Spans.{least_footer}
