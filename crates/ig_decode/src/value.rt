@@ -17,8 +17,7 @@ use crate::element::element_at;
 use crate::fault::ReadError;
 use crate::object::{
     HEADER_LEN, SCHEMA_AT_PLACE, SCHEMA_PLACE, alone_of, entry_count, followed_by, header_at,
-    is_canonical_alone, is_canonical_head, key_len, layout_of, parts_of, shape_of,
-    take_offset,
+    is_canonical_alone, is_canonical_head, key_len, layout_of, parts_of, shape_of, take_offset,
 };
 use crate::parts::ReadContent;
 use crate::rows::{array_row, content_row, element_row, optionals_row};
