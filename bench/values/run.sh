@@ -20,17 +20,17 @@ least() {
         "$work/yardstick" "$rounds" "$1" "$2" 2>>"$work/yardstick.times" >/dev/null
     done
     for program in values yardstick; do
-        awk 'NR == 1 || $2 < d { d = $2 } NR == 1 || $4 < e { e = $4 } END { print d, e }' \
+        awk 'NR == 1 || $2 < d { d = $2 } NR == 1 || $4 < e { e = $4 } NR == 1 || $6 < p { p = $6 } END { print d, e, p }' \
             "$work/$program.times" >"$work/$program.least"
     done
 }
 
 echo "value items decode yardstick ratio encode yardstick ratio (ns, the least of 5 runs of $rounds rounds)"
 for row in "bytes 1048576" "ints 262144" "longs 131072" "doubles 131072" "text 1048576" \
-    "list 1000" "nested 1000" "map 1000"; do
+    "list 1000" "nested 1000" "map 1000" "object 10" "objects 1000" "deep 1048576"; do
     least $row
     echo "$row $(cat "$work/values.least") $(cat "$work/yardstick.least")" |
-        awk '{ printf "%s %d %d %d %.2f %d %d %.2f\n", $1, $2, $3, $5, $5 / $3, $4, $6, $6 / $4 }'
+        awk '{ printf "%s %d %d %d %.2f %d %d %.2f\n", $1, $2, $3, $6, $6 / $3, $4, $7, $7 / $4 }'
 done
 
 echo "value items decode encode, and as a part of twice the time at half the items"
@@ -40,5 +40,13 @@ for row in "ints 131072" "text 524288" "list 20000" "nested 10000" "map 20000"; 
     half=$(cat "$work/values.least")
     least "$1" "$(($2 * 2))"
     echo "$1 $(($2 * 2)) $(cat "$work/values.least") $half" |
-        awk '{ printf "%s %d %d %d %.2f %.2f\n", $1, $2, $3, $4, $3 / $5 / 2, $4 / $6 / 2 }'
+        awk '{ printf "%s %d %d %d %.2f %.2f\n", $1, $2, $3, $4, $3 / $6 / 2, $4 / $7 / 2 }'
+done
+
+echo "value items encode, in pieces of 65536 by a mark, and encode as a part of that"
+rounds=$((rounds / 20 + 1))
+for row in "list 1000000" "objects 20000" "object 1000000" "deep 1048576"; do
+    set -- $row
+    least "$1" "$2"
+    echo "$1 $2 $(cat "$work/values.least")" | awk '{ printf "%s %d %d %d %.2f\n", $1, $2, $4, $5, $4 / $5 }'
 done

@@ -58,6 +58,19 @@ enum Value {
     Times(Vec<Option<i64>>),
     BinaryEnum { type_id: i32, ordinal: i32 },
     Null,
+    Object(Box<Object>),
+}
+
+enum Shape {
+    Named(Vec<i32>),
+    Compact(i32),
+}
+
+struct Object {
+    bits: u16,
+    type_id: i32,
+    shape: Shape,
+    fields: Vec<Value>,
 }
 
 /// Why bytes are no value, where so many of them are left.
@@ -70,6 +83,8 @@ enum Fault {
     Utf8(usize),
     Count(usize, i32),
     Depth(usize),
+    /// A header or a footer that is wrong at this offset of the object.
+    Object(usize, usize),
 }
 
 type Read<'a, T> = Result<(T, &'a [u8]), Fault>;
@@ -263,21 +278,21 @@ fn optionals<'a, T: Part>(code: u8, bytes: &'a [u8], make: impl FnOnce(Vec<Optio
     Ok((make(items), rest))
 }
 
-fn values(levels: u32, count: usize, bytes: &[u8]) -> Read<'_, Vec<Value>> {
+fn values<'a>(levels: u32, count: usize, bytes: &'a [u8], exact: &mut bool) -> Read<'a, Vec<Value>> {
     let mut items = Vec::with_capacity(count.min(bytes.len()));
     let mut rest = bytes;
     for _ in 0..count {
-        let (item, after) = decode(levels, rest)?;
+        let (item, after) = decode(levels, rest, exact)?;
         items.push(item);
         rest = after;
     }
     Ok((items, rest))
 }
 
-fn typed(levels: u32, bytes: &[u8]) -> Read<'_, (i32, Vec<Value>)> {
+fn typed<'a>(levels: u32, bytes: &'a [u8], exact: &mut bool) -> Read<'a, (i32, Vec<Value>)> {
     let (type_id, rest) = i32::read(bytes)?;
     let (count, rest) = count(rest)?;
-    let (items, rest) = values(levels, count, rest)?;
+    let (items, rest) = values(levels, count, rest, exact)?;
     Ok(((type_id, items), rest))
 }
 
@@ -287,7 +302,8 @@ fn both(bytes: &[u8]) -> Read<'_, (i32, i32)> {
     Ok(((first, second), rest))
 }
 
-fn decode(levels: u32, bytes: &[u8]) -> Read<'_, Value> {
+/// Reads a value. `exact` stays true where its bytes are its canonical form.
+fn decode<'a>(levels: u32, bytes: &'a [u8], exact: &mut bool) -> Read<'a, Value> {
     let (code, rest) = bytes.split_first().ok_or(Fault::Short(0))?;
     if levels == 0 {
         return Err(Fault::Depth(bytes.len()));
@@ -316,11 +332,11 @@ fn decode(levels: u32, bytes: &[u8]) -> Read<'_, Value> {
         20 => optionals(9, rest, Value::Strs),
         21 => optionals(10, rest, Value::Uuids),
         22 => optionals(11, rest, Value::Dates),
-        23 => typed(levels, rest).map(|((type_id, items), rest)| (Value::Objects { type_id, items }, rest)),
+        23 => typed(levels, rest, exact).map(|((type_id, items), rest)| (Value::Objects { type_id, items }, rest)),
         24 => {
             let (count, rest) = count(rest)?;
             let (kind, rest) = i8::read(rest)?;
-            let (items, rest) = values(levels, count, rest)?;
+            let (items, rest) = values(levels, count, rest, exact)?;
             Ok((Value::Collection { kind, items }, rest))
         }
         25 => {
@@ -328,8 +344,8 @@ fn decode(levels: u32, bytes: &[u8]) -> Read<'_, Value> {
             let (kind, mut rest) = i8::read(rest)?;
             let mut pairs = Vec::with_capacity(count.min(rest.len()));
             for _ in 0..count {
-                let (key, after) = decode(levels, rest)?;
-                let (value, after) = decode(levels, after)?;
+                let (key, after) = decode(levels, rest, exact)?;
+                let (value, after) = decode(levels, after, exact)?;
                 pairs.push((key, value));
                 rest = after;
             }
@@ -341,7 +357,7 @@ fn decode(levels: u32, bytes: &[u8]) -> Read<'_, Value> {
             Ok((Value::Wrapped { bytes, offset }, rest))
         }
         28 => both(rest).map(|((type_id, ordinal), rest)| (Value::Enum { type_id, ordinal }, rest)),
-        29 => typed(levels, rest).map(|((type_id, items), rest)| (Value::Enums { type_id, items }, rest)),
+        29 => typed(levels, rest, exact).map(|((type_id, items), rest)| (Value::Enums { type_id, items }, rest)),
         30 => row(rest, Value::Decimal),
         31 => optionals(30, rest, Value::Decimals),
         33 => row(rest, Value::Timestamp),
@@ -350,7 +366,153 @@ fn decode(levels: u32, bytes: &[u8]) -> Read<'_, Value> {
         37 => optionals(36, rest, Value::Times),
         38 => both(rest).map(|((type_id, ordinal), rest)| (Value::BinaryEnum { type_id, ordinal }, rest)),
         101 => Ok((Value::Null, rest)),
+        103 => object(levels, bytes, exact),
         _ => Err(Fault::Code(bytes.len(), *code)),
+    }
+}
+
+fn number(bytes: &[u8], at: usize) -> i32 {
+    i32::from_le_bytes(bytes[at..at + 4].try_into().unwrap())
+}
+
+/// The schema identifier of these field identifiers.
+fn schema_of(ids: &[i32]) -> i32 {
+    let mut hash = 0x811C_9DC5u32;
+    for byte in ids.iter().flat_map(|id| id.to_le_bytes()) {
+        hash = (hash ^ byte as u32).wrapping_mul(0x0100_0193);
+    }
+    hash as i32
+}
+
+/// The hash of the bytes of an object's fields.
+fn hash_of(fields: &[u8]) -> i32 {
+    fields.iter().fold(1u32, |hash, byte| hash.wrapping_mul(31).wrapping_add(*byte as i8 as u32)) as i32
+}
+
+fn object<'a>(levels: u32, bytes: &'a [u8], exact: &mut bool) -> Read<'a, Value> {
+    let wrong = |at| Fault::Object(bytes.len(), at);
+    if bytes.len() < 24 {
+        return Err(Fault::Short(bytes.len()));
+    }
+    let flags = u16::from_le_bytes([bytes[2], bytes[3]]);
+    let (type_id, hash) = (number(bytes, 4), number(bytes, 8));
+    let (length, schema, end) = (number(bytes, 12), number(bytes, 16), number(bytes, 20));
+    if bytes[1] != 1 {
+        return Err(wrong(1));
+    }
+    if flags & 4 != 0 || flags & 24 == 24 {
+        return Err(wrong(2));
+    }
+    if type_id == 0 {
+        return Err(wrong(4));
+    }
+    if length < 24 || length as usize > bytes.len() {
+        return Err(wrong(12));
+    }
+    let (whole, after) = bytes.split_at(length as usize);
+    let bits = flags & !0x3E;
+    if whole.len() == 24 {
+        *exact = *exact && flags == bits && (hash, schema, end) == (1, 0, 0);
+        let shape = Shape::Named(Vec::new());
+        return Ok((Value::Object(Box::new(Object { bits, type_id, shape, fields: Vec::new() })), after));
+    }
+    let compact = flags & 32 != 0;
+    let width = if flags & 8 != 0 { 1 } else if flags & 16 != 0 { 2 } else { 4 };
+    let entry = if compact { width } else { width + 4 };
+    if flags & 2 == 0 {
+        return Err(wrong(2));
+    }
+    if end <= 24 || end >= length || (length - end) as usize % entry != 0 {
+        return Err(wrong(20));
+    }
+    let (head, footer) = whole.split_at(end as usize);
+    let count = footer.len() / entry;
+    let shape = if compact {
+        Shape::Compact(schema)
+    } else {
+        let ids: Vec<i32> = footer.chunks_exact(entry).map(|entry| number(entry, 0)).collect();
+        if schema_of(&ids) != schema {
+            return Err(wrong(16));
+        }
+        Shape::Named(ids)
+    };
+    let mut fields = Vec::with_capacity(count.min(head.len() - 24));
+    let (mut rest, mut last) = (&head[24..], 0);
+    for (i, entry) in footer.chunks_exact(entry).enumerate() {
+        let mut offset = [0u8; 4];
+        offset[..width].copy_from_slice(&entry[entry.len() - width..]);
+        last = u32::from_le_bytes(offset) as usize;
+        if last != head.len() - rest.len() {
+            return Err(wrong(end as usize + i * entry.len()));
+        }
+        let (field, after) = decode(levels, rest, exact)?;
+        fields.push(field);
+        rest = after;
+    }
+    if !rest.is_empty() {
+        return Err(wrong(20));
+    }
+    *exact = *exact && width == width_of(last) && hash == hash_of(&head[24..]);
+    Ok((Value::Object(Box::new(Object { bits, type_id, shape, fields })), after))
+}
+
+/// The length of an object, and the offset of its last field.
+fn object_len(object: &Object) -> (usize, usize) {
+    let (mut end, mut last) = (24, 0);
+    for field in &object.fields {
+        last = end;
+        end += length(field);
+    }
+    let key = if matches!(object.shape, Shape::Named(_)) { 4 } else { 0 };
+    (end + object.fields.len() * (key + width_of(last)), last)
+}
+
+fn width_of(last: usize) -> usize {
+    if last < 256 { 1 } else if last < 65536 { 2 } else { 4 }
+}
+
+/// Writes the fields first, keeps their offsets, and fills in the header at last.
+fn write_object(object: &Object, out: &mut Vec<u8>) {
+    let start = out.len();
+    out.extend_from_slice(&[0; 24]);
+    let mut offsets = Vec::with_capacity(object.fields.len());
+    for field in &object.fields {
+        offsets.push(out.len() - start);
+        encode(field, out);
+    }
+    let end = out.len() - start;
+    let last = offsets.last().copied().unwrap_or(0);
+    let width = width_of(last);
+    for (i, offset) in offsets.iter().enumerate() {
+        if let Shape::Named(ids) = &object.shape {
+            out.extend_from_slice(&ids[i].to_le_bytes());
+        }
+        out.extend_from_slice(&(*offset as u32).to_le_bytes()[..width]);
+    }
+    let (mut flags, mut schema, mut schema_at) = (object.bits, 0, 0);
+    if !offsets.is_empty() {
+        flags += 2 + match width {
+            1 => 8,
+            2 => 16,
+            _ => 0,
+        };
+        schema_at = end as i32;
+        schema = match &object.shape {
+            Shape::Named(ids) => schema_of(ids),
+            Shape::Compact(schema) => {
+                flags += 32;
+                *schema
+            }
+        };
+    }
+    let length = (out.len() - start) as i32;
+    let hash = hash_of(&out[start + 24..start + end]);
+    let head = &mut out[start..start + 24];
+    head[0] = 103;
+    head[1] = 1;
+    head[2..4].copy_from_slice(&flags.to_le_bytes());
+    for (room, number) in head[4..].chunks_exact_mut(4).zip([object.type_id, hash, length, schema, schema_at]) {
+        room.copy_from_slice(&number.to_le_bytes());
     }
 }
 
@@ -388,6 +550,7 @@ fn length(value: &Value) -> usize {
         Value::Dates(items) | Value::Times(items) => optionals_len(items),
         Value::Decimals(items) => optionals_len(items),
         Value::Timestamps(items) => optionals_len(items),
+        Value::Object(object) => object_len(object).0,
         Value::Objects { items, .. } | Value::Enums { items, .. } => 9 + values_len(items),
         Value::Collection { items, .. } => 6 + values_len(items),
         Value::Map { pairs, .. } => 6 + pairs.iter().map(|(key, value)| length(key) + length(value)).sum::<usize>(),
@@ -482,6 +645,7 @@ fn encode(value: &Value, out: &mut Vec<u8>) {
         Value::Times(xs) => put_optionals(37, 36, xs, out),
         Value::BinaryEnum { type_id, ordinal } => put_both(38, *type_id, *ordinal, out),
         Value::Null => out.push(101),
+        Value::Object(object) => write_object(object, out),
     }
 }
 
@@ -507,6 +671,22 @@ fn map(count: i32) -> Value {
     Value::Map { kind: 1, pairs: (0..count).map(|i| (Value::Int(i), small(i))).collect() }
 }
 
+fn object_of(fields: Vec<Value>) -> Value {
+    let shape = Shape::Named((1..=fields.len() as i32).collect());
+    Value::Object(Box::new(Object { bits: 1, type_id: 112, shape, fields }))
+}
+
+/// Objects of ten fields in a collection.
+fn objects(count: i32) -> Value {
+    Value::Collection { kind: 1, items: (0..count).map(|_| object_of((0..10).map(small).collect())).collect() }
+}
+
+/// 31 objects in one another, around bytes.
+fn deep(size: i32) -> Value {
+    let bytes = Value::Bytes((0..size).map(|i| i as i8).collect());
+    (0..31).fold(bytes, |value, _| object_of(vec![value]))
+}
+
 /// The value of a name, of so many items.
 fn named(name: &str, size: i32) -> Option<Value> {
     Some(match name {
@@ -518,6 +698,9 @@ fn named(name: &str, size: i32) -> Option<Value> {
         "list" => list(size),
         "nested" => nested(size),
         "map" => map(size),
+        "object" => object_of((0..size).map(small).collect()),
+        "objects" => objects(size),
+        "deep" => deep(size),
         _ => return None,
     })
 }
@@ -533,9 +716,10 @@ fn main() {
         encode(black_box(&value), &mut bytes);
         writing = writing.min(start.elapsed().as_nanos());
         let start = Instant::now();
-        let read = decode(32, black_box(&bytes));
+        let mut exact = true;
+        let read = decode(32, black_box(&bytes), &mut exact);
         reading = reading.min(start.elapsed().as_nanos());
-        assert!(black_box(read).unwrap().1.is_empty());
+        assert!(black_box(read).unwrap().1.is_empty() && black_box(exact));
     }
     eprintln!("decode {reading} encode {writing}");
 }

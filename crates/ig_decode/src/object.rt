@@ -3,7 +3,7 @@
 ghost use Rattle.std.specs.Prelude.{◌≡◌, ◌<◌, ◌≤◌, ◌↔◌, ◌-◌, ◌/◌, ◌%◌, ℕ, ℤ, pos, true, false, List, None, Some, length, take, drop, FitsSigned, IsTrue, IsNone, IfSome, IfOk, IfErr};
 ghost use Rattle.std.specs.Int.{w32, byte_len, cast_signed, from_le_bytes};
 ghost use Rattle.ig_base.specs.Headers.{header_bytes, header_of};
-ghost use Rattle.ig_value.specs.Objects.{kept_flags, checks, first_wrong, is_uneven, width_flag};
+ghost use Rattle.ig_value.specs.Objects.{checks, first_wrong, is_uneven, width_flag};
 ghost use Rattle.ig_value.specs.Reading.{alone};
 ghost use Rattle.ig_decode.specs.FooterForms.{offsets_type, key_bytes, entry_bytes, IsFormOf};
 ghost use Rattle.ig_decode.specs.ObjectAnswers.{StopsBeforeFields, head_checks, footer_checks, IsDivided, IsLaidOut, footer_ids, IsShapeIn, IsCanonicalAlone, full_flags, IsCanonicalHead};
@@ -16,7 +16,7 @@ use ig_base::{
     COMPACT_FOOTER, Footer, HAS_SCHEMA, Header, Items, ONE_BYTE_OFFSETS, RAW_DATA,
     TWO_BYTE_OFFSETS, bytes_hash, footer_of, read_header, schema_id,
 };
-use ig_value::{Cause, Record, Shape, Value};
+use ig_value::{Cause, Record, Shape, Value, kept_flags};
 use std::alloc::{AllocError, Global};
 
 /// The bytes of an object's header.
@@ -134,8 +134,8 @@ fn checked_layout(header: &Header, there: usize) -> Result<Option<Layout>, Refus
     Ok(Some(checked_footer(header, length, form)?))
 }
 
-/// The form of the footer that the header tells, if an object in `there` bytes can have this header,
-/// with fields or without.
+/// The form of the footer that the header tells, if an object in `there` bytes can have this
+/// header, with fields or without.
 fn checked_head(header: &Header, there: usize) -> Result<Footer, Refusal>
     ensures right { IfOk result (λ form. first_wrong (head_checks header.now there) ≡ None) }
     ensures form { IfOk result (λ form. IsFormOf header.now form) }
@@ -191,7 +191,8 @@ fn checked_size(header: &Header, there: usize) -> Result<(), Refusal>
     Ok(())
 }
 
-/// The layout of an object with fields, if a number of whole entries stands between them and the end.
+/// The layout of an object with fields, if a number of whole entries stands between them and the
+/// end.
 fn checked_footer(header: &Header, length: usize, form: Footer) -> Result<Layout, Refusal>
     requires full { 24 < length }
     requires length { header.now.length ≡ pos length }
@@ -319,19 +320,12 @@ fn id_in(bytes: &[u8]) -> i32
 
 // ---- what isn't in the header of a canonical form
 
-/// The flags that belong to the value: the user's type, and those from 64 up.
-pub(crate) fn own_flags(flags: u16) -> u16
-    ensures { result ≡ kept_flags flags }
-{
-    flags / 64 * 64 + flags % 2
-}
-
 /// The object that is this header alone.
 pub(crate) fn alone_of(alloc: Global, header: &Header) -> Record<Value>
     ensures { result ≡ alone header.now }
 {
     Record {
-        bits: own_flags(header.flags),
+        bits: kept_flags(header.flags),
         type_id: header.type_id,
         shape: Shape::Named(Items::new(Vec::new(alloc))),
         fields: Items::new(Vec::new(alloc)),
@@ -345,7 +339,7 @@ pub(crate) fn is_canonical_alone(exact: bool, header: &Header) -> bool
     if !exact {
         return false;
     }
-    if header.flags != own_flags(header.flags) {
+    if header.flags != kept_flags(header.flags) {
         return false;
     }
     if header.hash != bytes_hash(&[]) {
@@ -376,7 +370,7 @@ pub(crate) fn is_canonical_head(exact: bool, header: &Header, last: usize, field
 fn canonical_flags(flags: u16, last: usize) -> u16
     ensures { result ≡ full_flags flags last }
 {
-    own_flags(flags)
+    kept_flags(flags)
         + HAS_SCHEMA
         + flag_of_width(last)
         + flags / COMPACT_FOOTER % 2 * COMPACT_FOOTER

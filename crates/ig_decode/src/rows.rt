@@ -70,8 +70,8 @@ pub(crate) fn optionals_row<C: ReadContent, F: FnOnce(Items<Option<C>>) -> Value
 ) -> Result<(Value, &[u8]), ReadError>
     requires { F.IsAlwaysCallable make }
     ensures { (build : List (Option C) → a_value) → Makes (F.post make) build
-        → ReaderAnswers (λ x. (x.0, x.1.now)) result
-        (mapped_read (λ xs. build xs.1) (array_at (optional_at (byte_of inner) C.reads) bytes.now)) }
+        → ReaderAnswers (λ x. (x.0, x.1.now)) result (mapped_read (λ xs. build xs.1)
+        (array_at (optional_at (byte_of inner) C.reads) bytes.now)) }
 {
     let (contents, rest) = optionals_of(alloc, inner, bytes)?;
     Ok((make(contents), rest))

@@ -169,8 +169,8 @@ static CHANGES: [(usize, u8, usize, Cause); 13] = [
     (24, 0x66, 24, Cause::Code(0x66)),
 ];
 
-/// The first object that isn't read whole, or is taken for canonical where it isn't or the other way
-/// round.
+/// The first object that isn't read whole, or is taken for canonical where it isn't or the other
+/// way round.
 fn wrong_object(alloc: Global) -> Option<usize> {
     for (row, (bytes, canonical)) in OBJECTS.iter().enumerate() {
         match decode(alloc, bytes) {

@@ -17,14 +17,13 @@ use crate::element::element_at;
 use crate::fault::ReadError;
 use crate::object::{
     HEADER_LEN, SCHEMA_AT_PLACE, SCHEMA_PLACE, alone_of, entry_count, followed_by, header_at,
-    is_canonical_alone, is_canonical_head, key_len, layout_of, own_flags, parts_of, shape_of,
-    take_offset,
+    is_canonical_alone, is_canonical_head, key_len, layout_of, parts_of, shape_of, take_offset,
 };
 use crate::parts::ReadContent;
 use crate::rows::{array_row, content_row, element_row, optionals_row};
 use crate::text::count_of;
 use ig_base::{Boxed, Footer, Items, Octets};
-use ig_value::{Cause, Code, Record, Value};
+use ig_value::{Cause, Code, Record, Value, kept_flags};
 use std::alloc::Global;
 
 /// The value that the bytes begin with, at most `levels` deep, and the bytes after it.
@@ -64,8 +63,8 @@ pub(crate) fn value_of<'a>(
     }
 }
 
-/// The value with this code and the content that the bytes after it begin with. A value inside is at
-/// most `levels` deep.
+/// The value with this code and the content that the bytes after it begin with. A value inside is
+/// at most `levels` deep.
 #[cycle(value)]
 #[inline(always)]
 fn content_of<'a>(
@@ -333,7 +332,7 @@ fn object_of<'a>(
     )?;
     *exact = is_canonical_head(*exact, &header, last, fields);
     let object = Record {
-        bits: own_flags(header.flags),
+        bits: kept_flags(header.flags),
         type_id: header.type_id,
         shape,
         fields: values,

@@ -1,5 +1,5 @@
 -- The canonical form of a value, by its code and its content.
-use Rattle.std.proofs.Common.{◌≡◌, ℕ, ℤ, pos, List, [], ◌∷◌, ◌++◌, length, map, sym, ap, subst, ◌∙◌, append_assoc}
+use Rattle.std.proofs.Common.{◌≡◌, ℕ, ℤ, pos, List, ◌∷◌, ◌++◌, length, map, sym, ap, subst, ◌∙◌, append_assoc}
 use Rattle.std.specs.Int.{w8, w32}
 use Rattle.std.specs.List.{flat_map}
 use Rattle.ig_base.specs.Numbers.{LE}

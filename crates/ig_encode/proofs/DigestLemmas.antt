@@ -1,11 +1,10 @@
 -- Digests of bytes that are laid end to end.
-use Rattle.std.proofs.Common.{◌≡◌, ℕ, suc, ◌+◌, ◌*◌, ◌%◌, ◌^◌, ◌<◌, ◌≤◌, List, [], ◌∷◌, ◌++◌, length, take, get_or, refl, sym, ap, ◌∙◌, arith, lit<, append_assoc}
+use Rattle.std.proofs.Common.{◌≡◌, ℕ, suc, ◌+◌, ◌*◌, ◌%◌, ◌^◌, ◌<◌, List, [], ◌∷◌, length, take, get_or, refl, sym, ap, ◌∙◌, arith, lit<}
 use Rattle.std.proofs.lemmas.Nat.{mul-mod_first, mul-mod_second}
 use Rattle.std.proofs.Math.Nat.{pow-suc, mod-add-mod}
-use Rattle.std.proofs.lemmas.List.{take_all}
 use Rattle.std.proofs.lemmas.Grind.{take_at_read}
 use Rattle.std.proofs.lemmas.List.Sums.{fold-append}
-use Rattle.ig_base.specs.Hashes.{java_step, sign_extension, hash_after, hash_factor}
+use Rattle.ig_base.specs.Hashes.{hash_after, hash_factor}
 use Rattle.ig_base.proofs.HashLemmas.{hash_after-scaled}
 use Rattle.ig_encode.specs.declared.measure.Digest.{Digest}
 use Rattle.ig_encode.specs.MeasureOutput.{digest_step, digest_after, no_digest}

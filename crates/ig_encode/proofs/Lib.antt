@@ -3,4 +3,5 @@ pub mod CanonLemmas
 pub mod DigestLemmas
 pub mod SpanLemmas
 pub mod MeasureLemmas
+pub mod ExtentLemmas
 pub mod MarkLemmas

@@ -1,5 +1,5 @@
 -- Paths of marks.
-use Rattle.std.proofs.Common.{◌≡◌, ℕ, ℤ, suc, zero, ◌+◌, ◌-◌, ◌≤◌, ◌<◌, List, [], ◌∷◌, ◌++◌, pos, length, map, take, drop, refl, sym, ap, subst, ◌∙◌, arith, append_assoc, length-append, drop_of_length-le, get_or, set, Bool, true, false, cond, eqb, ◌*◌, ◌/◌, ◌%◌, Option, Some, None}
+use Rattle.std.proofs.Common.{◌≡◌, ℕ, ℤ, suc, zero, ◌+◌, ◌-◌, ◌≤◌, ◌<◌, List, [], ◌∷◌, ◌++◌, pos, length, map, take, drop, refl, sym, ap, subst, ◌∙◌, arith, append_assoc, length-append, drop_of_length-le, get_or, set, Bool, true, false, cond, eqb, ◌/◌, ◌%◌, Option, Some, None}
 use Rattle.std.specs.Prelude.{slice_get}
 use Rattle.std.specs.Int.{w8, w32}
 use Rattle.std.specs.List.{flat_map}

@@ -1,12 +1,8 @@
 -- Measures of several pieces.
-use Rattle.std.proofs.Common.{◌≡◌, ℕ, ◌+◌, ◌<◌, List, [], ◌++◌, length, take, get_or, refl, sym, ap, ◌∙◌}
+use Rattle.std.proofs.Common.{◌≡◌, ℕ, ◌+◌, ◌<◌, List, [], ◌++◌, length, take, get_or, sym, ap, ◌∙◌}
 use Rattle.std.specs.List.{flat_map}
-use Rattle.ig_value.specs.declared.object.Shape.{Shape}
-use Rattle.ig_value.specs.declared.object.Shape.TheVariants.{Named, Compact}
 use Rattle.ig_encode.specs.declared.measure.Measure.{Measure}
-use Rattle.ig_encode.specs.declared.span.OffsetWidth.TheVariants.{One}
-use Rattle.ig_encode.specs.MeasureOutput.{measure_after, measured_after, measured_empty, measured_longer, fresh_of}
-use Rattle.ig_encode.specs.Spans.{span_of, field_footer}
+use Rattle.ig_encode.specs.MeasureOutput.{measure_after, measured_after, measured_empty}
 use Rattle.ig_encode.proofs.OutputLemmas.{flat_map_more}
 use Rattle.ig_encode.proofs.SpanLemmas.{measure_two}
 

@@ -1,15 +1,13 @@
 -- The parts of an object's canonical form.
-use Rattle.std.proofs.Common.{◌≡◌, ℕ, zero, suc, ◌+◌, ◌-◌, ◌*◌, ◌/◌, ◌%◌, ◌^◌, ◌<◌, ◌≤◌, ℤ, pos, Bool, true, false, cond, Some, List, [], ◌∷◌, ◌++◌, length, map, take, drop, get_or, ltb, refl, sym, ap, ◌∙◌, arith, lit<, append_assoc, length-append, length-take-le, None, Option}
+use Rattle.std.proofs.Common.{◌≡◌, ℕ, suc, ◌+◌, ◌/◌, ◌%◌, ◌^◌, ◌<◌, ℤ, pos, Bool, true, false, Some, List, [], ◌∷◌, ◌++◌, length, map, take, drop, get_or, ltb, refl, sym, ap, ◌∙◌, arith, append_assoc, length-append, length-take-le, None, Option}
 use Rattle.std.specs.Int.{Width, w8, w16, w32, cast_signed, cast_unsigned}
 use Rattle.std.specs.List.{flat_map}
-use Rattle.std.proofs.lemmas.Bool.{cases_Bool}
 use Rattle.std.proofs.lemmas.Int.{of_z-to_z}
 use Rattle.std.proofs.lemmas.List.{append-nil, take-append-drop}
 use Rattle.std.proofs.lemmas.Grind.{take_at_read, flat_map-append}
 use Rattle.ig_base.specs.Numbers.{LE}
 use Rattle.ig_base.specs.Hashes.{BytesHash, hash_after}
 use Rattle.ig_base.specs.Headers.{header_bytes}
-use Rattle.ig_base.proofs.HashLemmas.{hash_after-in_range}
 use Rattle.ig_base.specs.declared.header.Header.{Header}
 use Rattle.ig_value.specs.declared.object.Shape.{Shape}
 use Rattle.ig_value.specs.declared.object.Shape.TheVariants.{Named, Compact}
@@ -23,8 +21,8 @@ use Rattle.ig_encode.specs.declared.span.OffsetWidth.TheVariants.{One, Two, Four
 use Rattle.ig_encode.specs.declared.span.Offset.{Offset}
 use Rattle.ig_encode.specs.declared.span.Span.{Span}
 use Rattle.ig_encode.proofs.OutputLemmas.{Takes, TakesLonger, two}
-use Rattle.ig_encode.specs.MeasureOutput.{measure_after, measured_after, count_after, no_length, hashing_start, no_digest, digest_after, hashed_after, started, fresh_of, measured_empty, measured_longer}
-use Rattle.ig_encode.specs.Spans.{type_of, least_width, offset_of, key_bytes, entry_bytes, field_offsets, canonical_header, field_footer, span_of, footer_of, entry_noted, flag_of}
+use Rattle.ig_encode.specs.MeasureOutput.{measure_after, measured_after, count_after, no_length, hashing_start, no_digest, hashed_after, started, fresh_of, measured_empty, measured_longer}
+use Rattle.ig_encode.specs.Spans.{type_of, least_width, offset_of, key_bytes, entry_bytes, field_offsets, canonical_header, field_footer, span_of, footer_of, entry_noted, flag_of, least_footer}
 
 -- ---- numbers modulo 2^32
 
@@ -104,7 +102,7 @@ places_more place (p ∷ pieces) piece =
     ap (λ (l : List ℕ). place ∷ l) (places_more (place + length p) pieces piece
     ∙ ap (λ (n : ℕ). places_from (place + length p) pieces ++ n ∷ []) (let e : (place + length p) + length (flat_map (λ (b : List ℕ). b) pieces) ≡ place + length (p ++ flat_map (λ (b : List ℕ). b) pieces) = omega (arith, length-append p (flat_map (λ (b : List ℕ). b) pieces)) in e))
 
-last_more : (ns : List ℕ) (n : ℕ) → last_of (ns ++ n ∷ []) ≡ n
+pub last_more : (ns : List ℕ) (n : ℕ) → last_of (ns ++ n ∷ []) ≡ n
 last_more [] n = refl
 last_more (m ∷ []) n = refl
 last_more (m ∷ k ∷ ns) n = last_more (k ∷ ns) n
@@ -144,11 +142,11 @@ footer_more w (Compact schema) ns n =
 abbrev pub next_offset : List Value → ℕ
 next_offset fields = 24 + length (flat_map Canon fields)
 
-offsets_more : (xs : List Value) (x : Value) → field_offsets (xs ++ x ∷ []) ≡ field_offsets xs ++ next_offset xs ∷ []
+pub offsets_more : (xs : List Value) (x : Value) → field_offsets (xs ++ x ∷ []) ≡ field_offsets xs ++ next_offset xs ∷ []
 offsets_more xs x =
     ap (places_from 24) (map_more xs x) ∙ places_more 24 (map Canon xs) (Canon x) ∙ ap (λ (l : List ℕ). places_from 24 (map Canon xs) ++ (24 + length l) ∷ []) (flat_pieces xs)
 
-offsets_len : (xs : List Value) → length (field_offsets xs) ≡ length xs
+pub offsets_len : (xs : List Value) → length (field_offsets xs) ≡ length xs
 offsets_len xs = places_len 24 (map Canon xs) ∙ map_len xs
 
 pub field_footer_more : (w : Width) (shape : Shape) (xs : List Value) (x : Value) → field_footer w shape (xs ++ x ∷ []) ≡ field_footer w shape xs ++ entry_bytes w shape (length xs) (next_offset xs)
@@ -206,27 +204,25 @@ same_header h k a b c d e f g = rw (a, b, c, d, e, f, g) refl
 low_len : (n : ℕ) → (count_after no_length n).low ≡ n % 2 ^ 64
 low_len n = omega arith
 
--- the header that is made of a span
-pub header_right : (bits : ℕ) (type : ℤ) (shape : Shape) (fields : List Value) (span : Span) (h : Header) (m n : ℕ) → span ≡ span_of hashing_start shape fields → 0 < length fields →
-    h.version ≡ 1 → h.flags ≡ (bits + 2 + flag_of span.last.width + compact_flag shape) % 2 ^ 16 → LE w32 h.type_id ≡ LE w32 type → LE w32 h.hash ≡ LE w32 (cast_signed w32 (BytesHash (flat_map Canon fields))) →
-    m ≡ (span.fields.length.low + 24) % 2 ^ 64 → n ≡ (m + (footer_of span span.last.width).length.low) % 2 ^ 64 →
+-- the header that is made of the fields' measure and the footer's length
+pub header_right : (bits : ℕ) (type : ℤ) (shape : Shape) (fields : List Value) (measure : Measure) (w : OffsetWidth) (h : Header) (m n footer : ℕ) → measure ≡ measure_after hashing_start (flat_map Canon fields) → w ≡ least_width (last_of (field_offsets fields)) → 0 < length fields →
+    h.version ≡ 1 → h.flags ≡ (bits + 2 + flag_of w + compact_flag shape) % 2 ^ 16 → LE w32 h.type_id ≡ LE w32 type → LE w32 h.hash ≡ LE w32 (cast_signed w32 (BytesHash (flat_map Canon fields))) →
+    m ≡ (measure.length.low + 24) % 2 ^ 64 → footer ≡ length (field_footer (type_of w) shape fields) % 2 ^ 64 → n ≡ (m + footer) % 2 ^ 64 →
     LE w32 h.length ≡ LE w32 (pos n) → LE w32 h.schema ≡ LE w32 (canonical_schema shape) → LE w32 h.schema_at ≡ LE w32 (pos m) →
     header_bytes h ≡ header_bytes (canonical_header bits type shape (map Canon fields))
-header_right bits type shape [] span h m n is some v f t hs mm nn l s at = absurd (omega (arith, some))
-header_right bits type shape (x ∷ xs) span h m n is some v f t hs mm nn l s at =
+header_right bits type shape [] measure w h m n footer is wide some v f t hs mm ff nn l s at = absurd (omega (arith, some))
+header_right bits type shape (x ∷ xs) measure w h m n footer is wide some v f t hs mm ff nn l s at =
     let fields = x ∷ xs in
     let last = last_of (field_offsets fields) in
     let F = flat_map Canon fields in
     let T = field_footer (narrowest last) shape fields in
     let k = canonical_header bits type shape (map Canon fields) in
-    let width : span.last.width ≡ least_width last = ap (λ (z : Span). z.last.width) is in
     let flags : LE w16 (pos h.flags) ≡ LE w16 (pos k.flags) =
-    ap (λ n. LE w16 (pos n)) f ∙ flags_low (bits + 2 + flag_of span.last.width + compact_flag shape)
-    ∙ ap (λ (w : OffsetWidth). LE w16 (pos (bits + 2 + flag_of w + compact_flag shape))) width ∙ ap (λ n. LE w16 (pos (bits + 2 + n + compact_flag shape))) (least_flag last) in
-    let fields-len : span.fields.length.low ≡ length F % 2 ^ 64 = ap (λ (z : Span). z.fields.length.low) is ∙ low_len (length F) in
-    let footer : footer_of span span.last.width ≡ measure_after hashing_start T =
-    ap (λ (z : Span). footer_of z z.last.width) is ∙ footer_is hashing_start shape fields (least_width last) ∙ ap (λ (w : Width). measure_after hashing_start (field_footer w shape fields)) (least_type last) in
-    let footer-len : (footer_of span span.last.width).length.low ≡ length T % 2 ^ 64 = ap (λ (z : Measure). z.length.low) footer ∙ low_len (length T) in
+    ap (λ n. LE w16 (pos n)) f ∙ flags_low (bits + 2 + flag_of w + compact_flag shape)
+    ∙ ap (λ (v : OffsetWidth). LE w16 (pos (bits + 2 + flag_of v + compact_flag shape))) wide ∙ ap (λ n. LE w16 (pos (bits + 2 + n + compact_flag shape))) (least_flag last) in
+    let fields-len : measure.length.low ≡ length F % 2 ^ 64 = ap (λ (z : Measure). z.length.low) is ∙ low_len (length F) in
+    let type-is : field_footer (type_of w) shape fields ≡ T = ap (λ (v : OffsetWidth). field_footer (type_of v) shape fields) wide ∙ ap (λ (v : Width). field_footer v shape fields) (least_type last) in
+    let footer-len : footer ≡ length T % 2 ^ 64 = ff ∙ ap (λ (b : List ℕ). length b % 2 ^ 64) type-is in
     let flat = flat_pieces fields in
     let at-is : LE w32 h.schema_at ≡ LE w32 k.schema_at = at ∙ same_low m (24 + length F) (omega (arith, mm, fields-len)) ∙ ap (λ (b : List ℕ). LE w32 (pos (24 + length b))) (sym flat) in
     let len-is : LE w32 h.length ≡ LE w32 k.length =
@@ -375,17 +371,13 @@ footer_next after longer w shape s into fields i x o t u lt item put is entry =
     ∙ ap (after s into) (sym (field_footer_more (type_of w) shape xs x) ∙ ap (field_footer (type_of w) shape) (sym more))
 
 -- the header, the fields and the footer, put one after another
-pub object_put : {S : Type 0} (after : Takes S) → TakesLonger after → (bits : ℕ) (type : ℤ) (shape : Shape) (fields : List Value) (span : Span) (h : Header) (s : S) (into : List ℕ) (t u v : S × List ℕ) →
-    span ≡ span_of hashing_start shape fields → header_bytes h ≡ header_bytes (canonical_header bits type shape (map Canon fields)) →
-    t ≡ after s into (103 ∷ header_bytes h) → u ≡ after t.0 t.1 (flat_map Canon fields) → v ≡ after u.0 u.1 (field_footer (type_of span.last.width) shape fields) → v ≡ after s into (103 ∷ object_bytes bits type shape (map Canon fields))
-object_put after longer bits type shape fields span h s into t u v is head first second third =
-    let H = header_bytes (canonical_header bits type shape (map Canon fields)) in
-    let C : List ℕ = 103 ∷ H in
+pub object_put : {S : Type 0} (after : Takes S) → TakesLonger after → (bits : ℕ) (type : ℤ) (shape : Shape) (fields : List Value) (w : OffsetWidth) (s : S) (into : List ℕ) (t u v : S × List ℕ) →
+    w ≡ least_width (last_of (field_offsets fields)) → t ≡ after s into (103 ∷ header_bytes (canonical_header bits type shape (map Canon fields))) → u ≡ after t.0 t.1 (flat_map Canon fields) →
+    v ≡ after u.0 u.1 (field_footer (type_of w) shape fields) → v ≡ after s into (103 ∷ object_bytes bits type shape (map Canon fields))
+object_put after longer bits type shape fields w s into t u v is first second third =
+    let C : List ℕ = 103 ∷ header_bytes (canonical_header bits type shape (map Canon fields)) in
     let F = flat_map Canon fields in
-    let w = least_width (last_of (field_offsets fields)) in
-    let T = field_footer (type_of w) shape fields in
-    let width : span.last.width ≡ w = ap (λ (z : Span). z.last.width) is in
-    let a : t ≡ after s into C = first ∙ ap (λ (l : List ℕ). after s into (103 ∷ l)) head in
-    let b : u ≡ after s into (C ++ F) = two after longer s into C F t u a second in
-    let c : v ≡ after s into ((C ++ F) ++ T) = two after longer s into (C ++ F) T u v b (third ∙ ap (λ (k : OffsetWidth). after u.0 u.1 (field_footer (type_of k) shape fields)) width) in
+    let T = least_footer shape fields in
+    let b : u ≡ after s into (C ++ F) = two after longer s into C F t u first second in
+    let c : v ≡ after s into ((C ++ F) ++ T) = two after longer s into (C ++ F) T u v b (third ∙ ap (λ (k : OffsetWidth). after u.0 u.1 (field_footer (type_of k) shape fields)) is) in
     c ∙ ap (after s into) (append_assoc C F T ∙ ap (λ (l : List ℕ). 103 ∷ l) (sym (object_split bits type shape fields)))

@@ -1,6 +1,6 @@
 -- The parts of an object's canonical form, and what a walk over its fields finds.
-use Rattle.std.specs.Prelude.{◌≡◌, ℕ, zero, suc, ◌+◌, ◌%◌, ◌^◌, ℤ, pos, nat_lt, List, [], ◌∷◌, ◌++◌, length, map, if◌then◌else◌, get_or}
-use Rattle.std.specs.Int.{Width, w8, w16, w32, cast_signed}
+use Rattle.std.specs.Prelude.{ℕ, ◌+◌, ◌%◌, ◌^◌, ℤ, pos, nat_lt, List, [], ◌∷◌, ◌++◌, length, map, if◌then◌else◌, get_or}
+use Rattle.std.specs.Int.{Width, w8, w16, w32, byte_len, cast_signed}
 use Rattle.std.specs.List.{flat_map}
 use Rattle.ig_base.specs.Numbers.{LE}
 use Rattle.ig_base.specs.Hashes.{BytesHash}
@@ -14,8 +14,9 @@ use Rattle.ig_encode.specs.declared.measure.Measure.{Measure}
 use Rattle.ig_encode.specs.declared.span.OffsetWidth.{OffsetWidth}
 use Rattle.ig_encode.specs.declared.span.OffsetWidth.TheVariants.{One, Two, Four}
 use Rattle.ig_encode.specs.declared.span.Offset.{Offset}
+use Rattle.ig_encode.specs.declared.span.Extent.{Extent}
 use Rattle.ig_encode.specs.declared.span.Span.{Span}
-use Rattle.ig_encode.specs.MeasureOutput.{measure_after}
+use Rattle.ig_encode.specs.MeasureOutput.{measure_after, count_after, no_length}
 
 -- ---- offsets
 
@@ -41,6 +42,14 @@ key_bytes (Compact schema) i = []
 -- the entry of the field at this index and this offset
 abbrev pub entry_bytes : Width → Shape → ℕ → ℕ → List ℕ
 entry_bytes w shape i offset = key_bytes shape i ++ LE w (pos offset)
+
+-- the number of bytes of an entry
+abbrev pub key_size : Shape → ℕ
+key_size (Named ids) = 4
+key_size (Compact schema) = 0
+
+abbrev pub entry_size : OffsetWidth → Shape → ℕ
+entry_size width shape = key_size shape + byte_len (type_of width)
 
 -- the offsets of the fields
 abbrev pub field_offsets : List Value → List ℕ
@@ -70,6 +79,10 @@ canonical_header bits type shape (piece ∷ pieces) =
 -- the footer of these fields, with offsets of this type
 abbrev pub field_footer : Width → Shape → List Value → List ℕ
 field_footer w shape fields = footer_bytes w shape (field_offsets fields)
+
+-- the extent of these fields
+abbrev pub extent_of : List Value → Extent
+extent_of fields = record { length = count_after no_length (length (flat_map Canon fields)); last = offset_of (last_of (field_offsets fields)) }
 
 -- the span of these fields, by measures that begin as this one
 abbrev pub span_of : Measure → Shape → List Value → Span

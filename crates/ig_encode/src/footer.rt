@@ -4,7 +4,7 @@ ghost use Rattle.std.specs.Prelude.{◌≡◌};
 ghost use Rattle.ig_encode.specs.Spans.{type_of, field_footer, least_footer};
 
 use crate::measure::Measure;
-use crate::measure_walk::{measure_span, measure_value};
+use crate::measure_walk::{measure_extent, measure_value};
 use crate::object::{offset_after, put_entry};
 use crate::output::Output;
 use crate::span::OffsetWidth;
@@ -41,6 +41,9 @@ pub(crate) fn put_least_footer<S: Output>(
 )
     ensures { (out.new, into.new) ≡ S.after out.old into.old (least_footer shape.now fields.now) }
 {
-    let span = measure_span(shape, fields, &Measure::counting());
-    put_footer(shape, fields, span.last.width, out, into);
+    if out.is_full(into) {
+        return;
+    }
+    let extent = measure_extent(fields);
+    put_footer(shape, fields, extent.last.width, out, into);
 }

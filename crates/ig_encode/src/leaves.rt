@@ -97,15 +97,13 @@ fn put_scalar<E: WriteElement, S: Output>(code: Code, element: &E, out: &mut S, 
         ≡ S.after out.old into.old (byte_of code ∷ E.Spell.bytes element.now) }
 {
     let width = 1 + E::width();
-    if out.count(width) {
+    if let Some(at) = out.place(into.len(), width) {
+        copy_at(into, at, &[code.byte()]);
+        element.write_at(into, at + 1);
         return;
     }
-    match out.place(into.len(), width) {
-        Some(at) => {
-            copy_at(into, at, &[code.byte()]);
-            element.write_at(into, at + 1);
-        }
-        None => put_row(code, element, out, into),
+    if !out.count(width) {
+        put_row(code, element, out, into);
     }
 }
 
@@ -120,16 +118,14 @@ fn put_text<S: Output>(code: Code, text: &Text, out: &mut S, into: &mut [u8])
         put_row(code, text, out, into);
         return;
     };
-    if out.count(width) {
+    if let Some(at) = out.place(into.len(), width) {
+        copy_at(into, at, &[code.byte()]);
+        write_count(bytes.len(), into, at + 1);
+        copy_at(into, at + 5, bytes);
         return;
     }
-    match out.place(into.len(), width) {
-        Some(at) => {
-            copy_at(into, at, &[code.byte()]);
-            write_count(bytes.len(), into, at + 1);
-            copy_at(into, at + 5, bytes);
-        }
-        None => put_row(code, text, out, into),
+    if !out.count(width) {
+        put_row(code, text, out, into);
     }
 }
 
@@ -226,7 +222,8 @@ fn put_optionals<T: Spell, S: Output>(
     into: &mut [u8],
 )
     ensures { (out.new, into.new)
-        ≡ S.after out.old into.old (byte_of code ∷ array_bytes (optional_bytes (byte_of inner) T.bytes) parts.now) }
+        ≡ S.after out.old into.old (byte_of code
+        ∷ array_bytes (optional_bytes (byte_of inner) T.bytes) parts.now) }
 {
     let count = Count { items: parts.len() };
     put_scalar(code, &count, out, into);

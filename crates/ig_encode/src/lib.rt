@@ -1,17 +1,18 @@
 //! Encoding values: the one canonical form of a value, as a whole or from any offset on.
 //!
-//! A walk over the value puts its bytes, in order, to an [`Output`]: a [`Measure`], which counts them
-//! and hashes them where an object's header needs it, or a [`Window`], which fills a slice with those
-//! from an offset on. [`canonical_len`] counts, [`encode_part`] fills, and [`encode`] takes memory once
-//! and fills it. Texts and lists of numbers before the offset are skipped as a whole.
+//! A walk over the value puts its bytes, in order, to an [`Output`]: a [`Measure`], which counts
+//! them and hashes them where an object's header needs it, or a [`Window`], which fills a slice
+//! with those from an offset on. [`canonical_len`] counts, [`encode_part`] fills, and [`encode`]
+//! takes memory once and fills it. Texts and lists of numbers before the offset are skipped as a
+//! whole.
 //!
-//! An object's header tells the length and the hash of its fields, which come after it. One walk over
-//! the fields finds both: a measure keeps what bytes do to a hash, so that those of an object inside
-//! are taken by its measure. So each level of objects in one another costs one more walk.
+//! An object's header tells the length and the hash of its fields, which come after it. One walk
+//! over the fields finds both: a measure keeps what bytes do to a hash, so that those of an object
+//! inside are taken by its measure. So each level of objects in one another costs one more walk.
 //!
-//! Crates above write their results the same way: a function over any [`ValueOutput`] that puts numbers
-//! by [`put_i32`] and the like, and values by [`ValueOutput::put_value`], gives the length, the bytes
-//! and any part of them.
+//! Crates above write their results the same way: a function over any [`ValueOutput`] that puts
+//! numbers by [`put_i32`] and the like, and values by [`ValueOutput::put_value`], gives the length,
+//! the bytes and any part of them.
 #![tactic(auto)]
 
 mod calls;

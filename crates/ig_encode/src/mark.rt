@@ -12,8 +12,8 @@ pub(crate) struct Step {
 /// The deepest path that a mark keeps.
 pub(crate) const DEEPEST: usize = 32;
 
-/// An offset in the canonical form of a value, with the path to it through the values inside, so that
-/// writing goes on there without a walk over what stands before.
+/// An offset in the canonical form of a value, with the path to it through the values inside, so
+/// that writing goes on there without a walk over what stands before.
 #[derive(Clone, Copy, Debug, PartialEq, Eq)]
 pub struct Mark {
     pub(crate) offset: u64,

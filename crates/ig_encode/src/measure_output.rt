@@ -29,16 +29,6 @@ impl Measure {
         }
     }
 
-    /// The measure of no bytes, which hashes where this one does.
-    pub(crate) fn fresh(&self) -> Measure
-        ensures { result ≡ fresh_of self.now }
-    {
-        match self.digest {
-            Some(_) => Measure::hashing(),
-            None => Measure::counting(),
-        }
-    }
-
     /// Takes bytes by their measure, which hashes where this one does.
     pub(crate) fn absorb(&mut self, bytes: &Measure)
         ensures { (taken : List ℕ) → bytes.now ≡ measure_after (fresh_of self.old) taken
@@ -113,7 +103,7 @@ pub(crate) fn count_more(length: &mut Length, more: usize)
 
 /// Counts more bytes, which may carry into the high number.
 #[inline(never)]
-fn carry(length: &mut Length, more: u128)
+pub(crate) fn carry(length: &mut Length, more: u128)
     requires { more ≤ 2 ^ 128 - 2 ^ 64 }
     ensures { length.new ≡ count_after length.old more }
 {
@@ -123,7 +113,7 @@ fn carry(length: &mut Length, more: u128)
 }
 
 /// Counts as many bytes as another length.
-fn add(length: &mut Length, more: &Length)
+pub(crate) fn add(length: &mut Length, more: &Length)
     ensures { (n : ℕ) → more.now ≡ count_after no_length n → length.new ≡ count_after length.old n }
 {
     let sum = length.low as u128 + more.low as u128;

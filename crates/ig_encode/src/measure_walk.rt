@@ -1,17 +1,18 @@
 //! Measuring values, and the values inside them, in one walk.
 
-ghost use Rattle.std.specs.Prelude.{◌≡◌, ◌∷◌, ◌++◌};
+ghost use Rattle.std.specs.Prelude.{◌≡◌, ◌∷◌, ◌++◌, map};
 ghost use Rattle.std.specs.List.{flat_map};
 ghost use Rattle.ig_value.specs.Canon.{Canon};
+ghost use Rattle.ig_value.specs.Objects.{object_bytes};
 ghost use Rattle.ig_encode.specs.ListBytes.{pair_bytes};
-ghost use Rattle.ig_encode.specs.MeasureOutput.{measure_after, fresh_of};
-ghost use Rattle.ig_encode.specs.Spans.{span_of};
+ghost use Rattle.ig_encode.specs.MeasureOutput.{measure_after, hashing_start};
+ghost use Rattle.ig_encode.specs.Spans.{extent_of, span_of};
 
 use crate::leaves::{put_kinded, put_leaf, put_typed};
 use crate::measure::Measure;
-use crate::object::{note_entry, put_measured};
-use crate::span::{Offset, OffsetWidth, Span};
-use ig_value::{Code, Shape, Value};
+use crate::object::{count_object, note_entry, offset_after, put_measured};
+use crate::span::{Extent, Offset, OffsetWidth, Span};
+use ig_value::{Code, Object, Shape, Value};
 
 /// Measures the canonical form of the value.
 #[cycle(measure)]
@@ -40,12 +41,7 @@ pub(crate) fn measure_value(value: &Value, out: &mut Measure)
             put_typed(Code::Enums, type_id, items.len(), out, &mut none);
             measure_values(items, out);
         }
-        Value::Object(object) => {
-            let object = object.get();
-            let fields = object.fields.as_slice();
-            let span = measure_span(&object.shape, fields, out);
-            put_measured(object, &span, out);
-        }
+        Value::Object(object) => measure_object(object.get(), out),
         _ => put_leaf(value, out, &mut none),
     }
 }
@@ -71,20 +67,61 @@ fn measure_pairs(pairs: &[(Value, Value)], out: &mut Measure)
     }
 }
 
-/// Measures the fields of an object and its footer, by measures that hash where this one does.
+/// Measures an object. A measure that only counts needs no byte of it.
 #[cycle(measure)]
-pub(crate) fn measure_span(shape: &Shape, fields: &[Value], like: &Measure) -> Span
-    ensures { result ≡ span_of (fresh_of like.now) shape.now fields.now }
+#[inline(never)]
+fn measure_object(object: &Object, out: &mut Measure)
+    ensures { out.new ≡ measure_after out.old (103 ∷ object_bytes object.now.bits
+        object.now.type_id object.now.shape (map Canon object.now.fields)) }
+{
+    let fields = object.fields.as_slice();
+    match out.digest {
+        None => {
+            let extent = measure_extent(fields);
+            count_object(&object.shape, fields, &extent, out);
+        }
+        Some(_) => {
+            let span = measure_span(&object.shape, fields);
+            put_measured(object, &span, out);
+        }
+    }
+}
+
+/// Counts the fields of an object.
+#[cycle(measure)]
+pub(crate) fn measure_extent(fields: &[Value]) -> Extent
+    ensures { result ≡ extent_of fields.now }
+{
+    let mut measure = Measure::counting();
+    let mut last = Offset {
+        low: 0,
+        width: OffsetWidth::One,
+    };
+    for field in fields {
+        last = offset_after(&measure.length);
+        measure_value(field, &mut measure);
+    }
+    Extent {
+        length: measure.length,
+        last,
+    }
+}
+
+/// Measures the fields of an object and its footer, by measures that hash.
+#[cycle(measure)]
+#[inline(never)]
+fn measure_span(shape: &Shape, fields: &[Value]) -> Span
+    ensures { result ≡ span_of hashing_start shape.now fields.now }
 {
     let mut span = Span {
-        fields: like.fresh(),
+        fields: Measure::hashing(),
         last: Offset {
             low: 0,
             width: OffsetWidth::One,
         },
-        narrow: like.fresh(),
-        middle: like.fresh(),
-        wide: like.fresh(),
+        narrow: Measure::hashing(),
+        middle: Measure::hashing(),
+        wide: Measure::hashing(),
     };
     for (index, field) in fields.iter().enumerate() {
         note_entry(shape, index, &mut span);

@@ -1,22 +1,24 @@
 //! The header and the footer of a complex object.
 
-ghost use Rattle.std.specs.Prelude.{◌≡◌, ◌+◌, ◌*◌, ◌%◌, ◌^◌, ◌<◌, ◌++◌, ◌∷◌, ℕ, ℤ, List, pos, map, length, Some, get_or};
+ghost use Rattle.std.specs.Prelude.{◌≡◌, ◌+◌, ◌*◌, ◌%◌, ◌^◌, ◌<◌, ◌++◌, ◌∷◌, ℕ, ℤ, List, pos, map, length, Some, None, IfSome, get_or};
 ghost use Rattle.std.specs.Int.{w8, w16, w32, cast_signed};
+ghost use Rattle.std.specs.List.{flat_map};
 ghost use Rattle.ig_base.specs.Numbers.{LE};
 ghost use Rattle.ig_base.specs.Hashes.{BytesHash};
 ghost use Rattle.ig_base.specs.Headers.{header_bytes};
 ghost use Rattle.ig_value.specs.Canon.{Canon};
-ghost use Rattle.ig_value.specs.Objects.{object_bytes, compact_flag, canonical_schema};
+ghost use Rattle.ig_value.specs.Objects.{object_bytes, last_of, compact_flag, canonical_schema};
 ghost use Rattle.ig_encode.specs.MeasureOutput.{measure_after, count_after, no_length, hashing_start, fresh_of};
-ghost use Rattle.ig_encode.specs.Spans.{type_of, offset_of, key_bytes, entry_bytes, canonical_header, span_of, footer_of, entry_noted, flag_of};
+ghost use Rattle.ig_encode.specs.Spans.{type_of, least_width, offset_of, field_offsets, key_bytes, entry_bytes, entry_size, canonical_header, extent_of, span_of, footer_of, least_footer, entry_noted, flag_of};
 
 use crate::length::Length;
 use crate::measure::Measure;
-use crate::measure_output::count_more;
+use crate::measure_output::{add, carry, count_more};
 use crate::output::Output;
-use crate::span::{Offset, OffsetWidth, Span};
+use crate::span::{Extent, Offset, OffsetWidth, Span};
+use crate::window::Window;
 use ig_base::{COMPACT_FOOTER, HAS_SCHEMA, Header, ONE_BYTE_OFFSETS, TWO_BYTE_OFFSETS, schema_id};
-use ig_value::{Code, Object, Shape};
+use ig_value::{Code, Object, Shape, Value};
 
 /// The bytes of an object before its fields.
 pub(crate) const HEADER_LEN: usize = 24;
@@ -165,25 +167,60 @@ fn signed(n: u64) -> i32
     ((n % 4_294_967_296) as u32).cast_signed()
 }
 
-/// The header of an object, by the span of its fields. Of a length of 2^31 and more it has the
-/// lowest 32 bits.
-pub(crate) fn header_of_span(object: &Object, span: &Span) -> Header
-    requires { span.now ≡ span_of hashing_start object.now.shape object.now.fields }
+/// The bytes of an entry of a footer.
+fn entry_len(shape: &Shape, width: OffsetWidth) -> usize
+    ensures { result ≡ entry_size width shape.now }
+{
+    let key = match shape {
+        Shape::Named(_) => 4,
+        Shape::Compact(_) => 0,
+    };
+    let offset = match width {
+        OffsetWidth::One => 1,
+        OffsetWidth::Two => 2,
+        OffsetWidth::Four => 4,
+    };
+    key + offset
+}
+
+/// The number of bytes of an object whose fields have this extent, if a slice can have as many.
+pub(crate) fn object_len(shape: &Shape, fields: &[Value], extent: &Extent) -> Option<usize>
+    requires { extent.now ≡ extent_of fields.now }
+    ensures { IfSome result (λ len. len
+        ≡ 24 + (length (flat_map Canon fields.now) + length (least_footer shape.now fields.now))) }
+{
+    if extent.length.high > 0 {
+        return None;
+    }
+    let footer = fields
+        .len()
+        .checked_mul(entry_len(shape, extent.last.width))?;
+    let parts = footer.checked_add(extent.length.low as usize)?;
+    parts.checked_add(HEADER_LEN)
+}
+
+/// The header of an object whose fields have this measure, and offsets of this width. Of a length
+/// of 2^31 and more it has the lowest 32 bits.
+pub(crate) fn header_of(object: &Object, fields: &Measure, width: OffsetWidth) -> Header
+    requires fields { fields.now ≡ measure_after hashing_start (flat_map Canon object.now.fields) }
+    requires width { width ≡ least_width (last_of (field_offsets object.now.fields)) }
     ensures { header_bytes result ≡ header_bytes (canonical_header object.now.bits
         object.now.type_id object.now.shape (map Canon object.now.fields)) }
 {
-    if object.fields.as_slice().is_empty() {
+    let count = object.fields.as_slice().len();
+    if count == 0 {
         return header_alone(object.bits, object.type_id);
     }
-    let fields = span.fields.length.low.wrapping_add(24);
+    let schema_at = fields.length.low.wrapping_add(24);
+    let footer = (count as u64).wrapping_mul(entry_len(&object.shape, width) as u64);
     Header {
         version: 1,
-        flags: flags_of(object.bits, &object.shape, span.last.width),
+        flags: flags_of(object.bits, &object.shape, width),
         type_id: object.type_id,
-        hash: hash_of(&span.fields),
-        length: signed(fields.wrapping_add(footer_of_span(span).length.low)),
+        hash: hash_of(fields),
+        length: signed(schema_at.wrapping_add(footer)),
         schema: schema_of_shape(&object.shape),
-        schema_at: signed(fields),
+        schema_at: signed(schema_at),
     }
 }
 
@@ -277,6 +314,35 @@ pub(crate) fn put_header<S: Output>(header: &Header, out: &mut S, into: &mut [u8
     out.put(into, &bytes);
 }
 
+/// Writes the code of an object and its header over a slice of their length, where the bytes of the
+/// fields are there already.
+pub(crate) fn write_head(object: &Object, fields: &[u8], width: OffsetWidth, head: &mut [u8])
+    requires fields { fields.now ≡ flat_map Canon object.now.fields }
+    requires width { width ≡ least_width (last_of (field_offsets object.now.fields)) }
+    requires room { length head.old ≡ 24 }
+    ensures { head.new ≡ 103 ∷ header_bytes (canonical_header object.now.bits object.now.type_id
+        object.now.shape (map Canon object.now.fields)) }
+{
+    let mut none = [0u8; 0];
+    let mut measure = Measure::hashing();
+    measure.put(&mut none, fields);
+    let mut window = Window::from(0);
+    put_header(&header_of(object, &measure, width), &mut window, head);
+}
+
+/// Counts an object whose fields were counted.
+pub(crate) fn count_object(shape: &Shape, fields: &[Value], extent: &Extent, out: &mut Measure)
+    requires counts { out.old.digest ≡ None }
+    requires extent { extent.now ≡ extent_of fields.now }
+    ensures { (bits : ℕ) (type : ℤ) → out.new ≡ measure_after out.old (103 ∷ object_bytes bits type
+        shape.now (map Canon fields.now)) }
+{
+    let entry = entry_len(shape, extent.last.width);
+    count_more(&mut out.length, HEADER_LEN);
+    add(&mut out.length, &extent.length);
+    carry(&mut out.length, fields.len() as u128 * entry as u128);
+}
+
 /// Measures an object whose fields were measured.
 pub(crate) fn put_measured(object: &Object, span: &Span, out: &mut Measure)
     requires { span.now ≡ span_of (fresh_of out.old) object.now.shape object.now.fields }
@@ -298,7 +364,8 @@ fn measure_header(object: &Object, span: &Span, out: &mut Measure)
         None => count_more(&mut out.length, HEADER_LEN),
         Some(_) => {
             let mut none = [0u8; 0];
-            put_header(&header_of_span(object, span), out, &mut none);
+            let header = header_of(object, &span.fields, span.last.width);
+            put_header(&header, out, &mut none);
         }
     }
 }

@@ -1,5 +1,6 @@
 //! What a walk over an object's fields finds before a byte of the object is written.
 
+use crate::length::Length;
 use crate::measure::Measure;
 
 /// How many bytes an offset has in a footer.
@@ -15,6 +16,14 @@ pub(crate) enum OffsetWidth {
 pub(crate) struct Offset {
     pub(crate) low: u32,
     pub(crate) width: OffsetWidth,
+}
+
+/// The fields of an object, counted: how many bytes they have, and the offset of the last of them
+/// (0 without fields).
+#[derive(Clone, Copy, Debug, PartialEq, Eq)]
+pub(crate) struct Extent {
+    pub(crate) length: Length,
+    pub(crate) last: Offset,
 }
 
 /// The fields of an object and its footer, measured. How wide the footer's offsets are is known at

@@ -1,7 +1,7 @@
 //! The bytes of a value from an offset on.
 
-/// A slice being filled with the bytes from an offset on: how many bytes are still to be skipped, and
-/// how many bytes of the slice are filled.
+/// A slice being filled with the bytes from an offset on: how many bytes are still to be skipped,
+/// and how many bytes of the slice are filled.
 #[derive(Debug, Drop)]
 pub struct Window {
     pub(crate) skip: u64,

@@ -24,8 +24,13 @@ impl Output for Window {
         }
     }
 
-    fn count(&mut self, _more: usize) -> bool {
-        false
+    #[inline(always)]
+    fn count(&mut self, more: usize) -> bool {
+        if self.skip < more as u64 {
+            return false;
+        }
+        self.skip -= more as u64;
+        true
     }
 
     #[inline(always)]

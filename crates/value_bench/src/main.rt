@@ -5,11 +5,14 @@
 //! go to standard error.
 #![tactic(auto)]
 
+ghost use Rattle.std.specs.Prelude.{OnOk};
+ghost use Rattle.ig_value.specs.Canon.{IsSendable};
+
 use anyhow::{Context, Result, bail, ensure};
-use ig_base::{Items, Octets, Text};
+use ig_base::{Boxed, Items, Octets, Text};
 use ig_decode::decode;
-use ig_encode::{canonical_len, encode};
-use ig_value::Value;
+use ig_encode::{Mark, canonical_len, encode, encode_next};
+use ig_value::{Record, Shape, Value};
 use std::alloc::Global;
 use std::env;
 use std::rt::{Clock, Env};
@@ -63,6 +66,50 @@ fn map(alloc: Global, size: i32) -> Result<Value> {
     Ok(Value::Map { kind: 1, pairs })
 }
 
+fn object_of(alloc: Global, fields: Vec<Value>) -> Result<Value> {
+    let mut ids = Vec::with_capacity(alloc, fields.len())?;
+    for index in 0..fields.len() {
+        ids.push((index % 65_536) as i32)?;
+    }
+    let object = Record {
+        bits: 1,
+        type_id: 112,
+        shape: Shape::Named(Items::new(ids)),
+        fields: Items::new(fields),
+    };
+    Ok(Value::Object(Boxed::new(alloc, object)?))
+}
+
+/// An object with fields like the items of a list.
+fn object(alloc: Global, size: i32) -> Result<Value> {
+    let mut fields = Vec::with_capacity(alloc, usize::try_from(size).unwrap_or(0))?;
+    for i in 0..size {
+        fields.push(small(alloc, i)?)?;
+    }
+    object_of(alloc, fields)
+}
+
+/// Objects of ten fields in a collection.
+fn objects(alloc: Global, size: i32) -> Result<Value> {
+    let mut items = Vec::with_capacity(alloc, usize::try_from(size).unwrap_or(0))?;
+    for _ in 0..size {
+        items.push(object(alloc, 10)?)?;
+    }
+    let items = Items::new(items);
+    Ok(Value::Collection { kind: 1, items })
+}
+
+/// 31 objects in one another, around bytes.
+fn deep(alloc: Global, size: i32) -> Result<Value> {
+    let mut value = Value::Bytes(items(alloc, size, |i| (i % 128) as i8)?);
+    for _ in 0..31 {
+        let mut fields = Vec::with_capacity(alloc, 1)?;
+        fields.push(value)?;
+        value = object_of(alloc, fields)?;
+    }
+    Ok(value)
+}
+
 fn text(alloc: Global, size: i32) -> Result<Value> {
     let mut letters = String::new(alloc);
     for _ in 0..size / 4 {
@@ -82,18 +129,44 @@ fn named(alloc: Global, name: &str, size: i32) -> Result<Value> {
         "list" => list(alloc, size),
         "nested" => nested(alloc, size),
         "map" => map(alloc, size),
+        "object" => object(alloc, size),
+        "objects" => objects(alloc, size),
+        "deep" => deep(alloc, size),
         _ => bail!("no value has this name"),
     }
 }
 
-/// Appends the value's bytes. Answers how many nanoseconds it took.
-fn write(rt: &(impl Clock + AllocGlobal), value: &Value, bytes: &mut Octets) -> Result<u128> {
+/// Refuses a value whose length no Int32 tells.
+fn check_len(value: &Value) -> Result<()>
+    ensures { OnOk result (IsSendable value.now) }
+{
     ensure!(
         canonical_len(value) < 2_147_483_648,
         "the value is too long"
     );
+    Ok(())
+}
+
+/// Appends the value's bytes. Answers how many nanoseconds it took.
+fn write(rt: &(impl Clock + AllocGlobal), value: &Value, bytes: &mut Octets) -> Result<u128> {
+    check_len(value)?;
     let start = Instant::now(rt)?;
     encode(rt.alloc(), value, bytes)?;
+    Ok(start.elapsed(rt)?.as_nanos())
+}
+
+/// Shows the value's bytes piece by piece, each from the mark that the one before left. Answers how
+/// many nanoseconds it took.
+fn show(rt: &(impl Clock + AllocGlobal), value: &Value) -> Result<u128> {
+    check_len(value)?;
+    let mut piece = vec![in rt.alloc(); 0u8; 65_536]?;
+    let start = Instant::now(rt)?;
+    let mut mark = Mark::start();
+    for _ in 0..u64::MAX {
+        if encode_next(value, &mut mark, &mut piece) < piece.len() {
+            break;
+        }
+    }
     Ok(start.elapsed(rt)?.as_nanos())
 }
 
@@ -109,15 +182,22 @@ fn read(rt: &(impl Clock + AllocGlobal), bytes: &[u8]) -> Result<u128> {
     Ok(nanos)
 }
 
-/// The least times of writing and of reading the value, in nanoseconds, over these rounds.
-fn times(rt: &(impl Clock + AllocGlobal), rounds: u32, value: &Value) -> Result<(u128, u128)> {
-    let (mut writing, mut reading) = (u128::MAX, u128::MAX);
+/// The least times of what is done with a value over some rounds, in nanoseconds.
+struct Measured {
+    reading: u128,
+    writing: u128,
+    showing: u128,
+}
+
+fn times(rt: &(impl Clock + AllocGlobal), rounds: u32, value: &Value) -> Result<Measured> {
+    let (mut reading, mut writing, mut showing) = (u128::MAX, u128::MAX, u128::MAX);
     for _ in 0..rounds {
         let mut bytes = Octets::empty(rt.alloc());
         writing = writing.min(write(rt, value, &mut bytes)?);
         reading = reading.min(read(rt, bytes.as_slice())?);
+        showing = showing.min(show(rt, value)?);
     }
-    Ok((writing, reading))
+    Ok(Measured { reading, writing, showing })
 }
 
 /// Writes and reads the value in each round.
@@ -131,9 +211,9 @@ fn measure(
     let times = times(rt, rounds, &value);
     let length = canonical_len(&value);
     drop(value);
-    let (writing, reading) = times?;
+    let Measured { reading, writing, showing } = times?;
     println!(rt; "{name} of {size}: {length} bytes")?;
-    eprintln!(rt; "decode {reading} encode {writing}")?;
+    eprintln!(rt; "decode {reading} encode {writing} pieces {showing}")?;
     Ok(())
 }
 
@@ -152,7 +232,8 @@ fn main(rt: HostRuntime) -> Result<()> {
         return measure(&rt, rounds, name.as_str(), size);
     }
     for name in [
-        "bytes", "ints", "longs", "doubles", "text", "list", "nested", "map",
+        "bytes", "ints", "longs", "doubles", "text", "list", "nested", "map", "object", "objects",
+        "deep",
     ] {
         measure(&rt, rounds, name, 1000)?;
     }

@@ -451,7 +451,7 @@ object_of-returns-clause-reads t c =
     let right = shape_right c.args.bytes.now c.in_ok-header.header c.in-Some.layout c.in_ok-header.ensures.found lay c.parts_of.result.0.now c.parts_of.result.1.now c.parts_of.result.2.now c.parts_of.ensures.fields c.parts_of.ensures.footer c.parts_of.ensures.rest told.1 in
     let fits = header_fits c.args.bytes.now c.in_ok-header.header (λ i. omega (arith, c.type_inv.bytes i)) c.in_ok-header.ensures.found in
     let o : c.in_ok-new-2.field-0 ≡ record { bits = kept_flags c.in_ok-header.header.flags; type_id = c.in_ok-header.header.type_id; shape = c.in-Some-2.shape; fields = c.in_ok-values.values } =
-    same_record c.in_ok-new-2.field-0 _ _ _ _ c.in-Some-2.shape c.in_ok-values.values c.in_ok-new-2.ensures c.own_flags.ensures (to_z-of_z w32 c.in_ok-header.header.type_id fits.type) in
+    same_record c.in_ok-new-2.field-0 _ _ _ _ c.in-Some-2.shape c.in_ok-values.values c.in_ok-new-2.ensures c.kept_flags.ensures (to_z-of_z w32 c.in_ok-header.header.type_id fits.type) in
     object_read c.args.bytes.now c.in_ok-header.header c.in-Some.layout c.in_ok-header.ensures.found lay c.parts_of.result.0.now c.parts_of.result.1.now c.parts_of.result.2.now c.parts_of.ensures.fields c.parts_of.ensures.footer c.parts_of.ensures.rest right (value_at c.args.levels) c.in_ok-values.values c.in_ok-values.ensures.reads c.in-Some-2.shape told.0
     ∙ ap (λ (x : Record Value). Ok (value.Object x, c.parts_of.result.2.now)) (sym o)
 
@@ -462,7 +462,7 @@ object_of-returns-clause-exact t c =
     let right = shape_right c.args.bytes.now c.in_ok-header.header c.in-Some.layout c.in_ok-header.ensures.found lay c.parts_of.result.0.now c.parts_of.result.1.now c.parts_of.result.2.now c.parts_of.ensures.fields c.parts_of.ensures.footer c.parts_of.ensures.rest told.1 in
     let fits = header_fits c.args.bytes.now c.in_ok-header.header (λ i. omega (arith, c.type_inv.bytes i)) c.in_ok-header.ensures.found in
     let o : c.in_ok-new-2.field-0 ≡ record { bits = kept_flags c.in_ok-header.header.flags; type_id = c.in_ok-header.header.type_id; shape = c.in-Some-2.shape; fields = c.in_ok-values.values } =
-    same_record c.in_ok-new-2.field-0 _ _ _ _ c.in-Some-2.shape c.in_ok-values.values c.in_ok-new-2.ensures c.own_flags.ensures (to_z-of_z w32 c.in_ok-header.header.type_id fits.type) in
+    same_record c.in_ok-new-2.field-0 _ _ _ _ c.in-Some-2.shape c.in_ok-values.values c.in_ok-new-2.ensures c.kept_flags.ensures (to_z-of_z w32 c.in_ok-header.header.type_id fits.type) in
     subst (λ (x : Record Value). KeepsExact c.args.exact.now c.is_canonical_head.result c.args.bytes.now (Canon (value.Object x)) c.parts_of.result.2.now) (sym o)
     (object_kept c.args.levels c.args.bytes.now c.in_ok-header.header c.in-Some.layout c.in_ok-header.ensures.found lay c.parts_of.result.0.now c.parts_of.result.1.now c.parts_of.result.2.now c.parts_of.ensures.fields c.parts_of.ensures.footer c.parts_of.ensures.rest (λ i. omega (arith, c.type_inv.bytes i)) c.requires c.in_ok-header.ensures.spelled right
     c.in-Some-2.shape told.0 told.1 c.in_ok-values.values c.in_ok-values.ensures.reads c.in_ok-values.last c.in_ok-values.ensures.last

@@ -1,4 +1,4 @@
-use Rattle.std.proofs.Common.{◌≡◌, ◌+◌, length, take, refl, sym, ap, ◌∙◌}
+use Rattle.std.proofs.Common.{length, take, sym, ap, ◌∙◌}
 use Rattle.std.specs.List.{flat_map}
 use Rattle.ig_value.specs.Canon.{Canon}
 use Rattle.ig_encode.specs.declared.measure.Measure.{Measure}

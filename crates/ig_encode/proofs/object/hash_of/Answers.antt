@@ -1,7 +1,7 @@
-use Rattle.std.proofs.Common.{◌≡◌, ◌+◌, ◌%◌, ◌^◌, ◌<◌, ℕ, ℤ, List, Option, Some, None, refl, sym, ap, ◌∙◌, arith}
+use Rattle.std.proofs.Common.{◌≡◌, ◌+◌, ◌%◌, ◌^◌, ℕ, ℤ, List, Option, Some, None, sym, ap, ◌∙◌, arith}
 use Rattle.std.specs.Int.{w32, cast_signed, cast_unsigned}
 use Rattle.std.proofs.lemmas.Int.{of_z-to_z}
-use Rattle.ig_base.specs.Hashes.{BytesHash, hash_after}
+use Rattle.ig_base.specs.Hashes.{BytesHash}
 use Rattle.ig_encode.specs.declared.measure.Digest.{Digest}
 use Rattle.ig_encode.specs.declared.measure.Measure.{Measure}
 use Rattle.ig_encode.specs.MeasureOutput.{digest_after, no_digest, measure_after, hashing_start}

@@ -1,4 +1,4 @@
-use Rattle.std.proofs.Common.{sym, ap, ◌∙◌}
+use Rattle.std.proofs.Common.{◌∙◌}
 use Rattle.ig_encode.proofs.SpanLemmas.{measured_object}
 use Rattle.ig_encode.proofs.object.put_measured.Goals as goal
 

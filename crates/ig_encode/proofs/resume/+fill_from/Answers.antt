@@ -1,4 +1,4 @@
-use Rattle.std.proofs.Common.{◌≡◌, ◌<◌, get_or, length, sym, ◌∙◌, arith}
+use Rattle.std.proofs.Common.{◌<◌, get_or, length, sym, ◌∙◌, arith}
 use Rattle.std.proofs.lemmas.Bool.{eqb-false}
 use Rattle.ig_encode.proofs.MarkLemmas.{path_head, resumed_some, resumed_none}
 use Rattle.ig_encode.proofs.resume.+fill_from.Goals as goal

@@ -1,4 +1,4 @@
-use Rattle.std.proofs.Common.{◌≡◌, ◌-◌, ◌≤◌, ◌<◌, length, sym, ◌∙◌, arith}
+use Rattle.std.proofs.Common.{◌<◌, length, sym, ◌∙◌, arith}
 use Rattle.std.proofs.lemmas.Bool.{eqb-false}
 use Rattle.ig_encode.proofs.MarkLemmas.{below_len, below_within, below_there, path_through, path_past}
 use Rattle.ig_encode.proofs.resume.+move_path.Goals as goal

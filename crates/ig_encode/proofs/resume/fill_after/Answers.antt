@@ -1,14 +1,13 @@
-use Rattle.std.proofs.Common.{◌≡◌, ℕ, List, [], ◌++◌, drop, sym, ap, ◌∙◌}
-use Rattle.std.proofs.lemmas.List.{append-nil}
+use Rattle.std.proofs.Common.{List, drop, sym, ap, ◌∙◌}
 use Rattle.std.specs.List.{flat_map}
 use Rattle.ig_value.specs.declared.value.Value.{Value}
 use Rattle.ig_value.specs.declared.value.Value.TheVariants as value
 use Rattle.ig_value.specs.Canon.{Canon}
-use Rattle.ig_encode.specs.Marks.{inner_values, paired_values, tail_bytes}
+use Rattle.ig_encode.specs.Marks.{paired_values}
 use Rattle.ig_encode.specs.Spans.{least_footer}
 use Rattle.ig_encode.specs.WindowOutput.{window_after, filled_longer}
 use Rattle.ig_encode.proofs.OutputLemmas.{two}
-use Rattle.ig_encode.proofs.MarkLemmas.{inner_object, inner_objects, inner_enums, inner_collection, inner_map, after_index, rest_all, object_after}
+use Rattle.ig_encode.proofs.MarkLemmas.{inner_objects, inner_enums, inner_collection, inner_map, after_index, rest_all, object_after}
 use Rattle.ig_encode.proofs.resume.fill_after.Goals as goal
 
 pub returns-in-Objects : goal.returns-in-Objects
