@@ -7,6 +7,7 @@ pub mod HelloReplies
 pub mod Heads
 pub mod ReadAnswers
 pub mod HeadAnswers
+pub mod HeadViews
 pub mod Profiles
 pub mod Laws
 pub mod Operations

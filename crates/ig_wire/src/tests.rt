@@ -1,5 +1,6 @@
 use super::*;
 use ig_base::{NoMemory, NodeId, Octets, Text, Topology};
+use ig_encode::{Measure, Window};
 use std::alloc::Global;
 use std::test::Fail;
 
@@ -462,6 +463,31 @@ fn heads_say_what_they_tell(rt: HostRuntime) -> Result<(), Fail> {
         read_ask(&[0xE9, 3, 1, 0, 0, 0, 0, 0, 0, 0x80, 7]),
         (1_001, i64::MIN + 1)
     );
+    Ok(())
+}
+
+/// A head is measured, and shown from its flags on.
+#[test]
+fn heads_are_shown(rt: HostRuntime) -> Result<(), Fail> {
+    let head = HeadView {
+        id: 3,
+        told: Some(Topology {
+            version: 1,
+            minor: 5,
+        }),
+        fault: Some(FaultView {
+            status: 1_000,
+            text: "a",
+        }),
+    };
+    let mut measure = Measure::counting();
+    put_head(Version::V1_4_0, &head, &mut measure, &mut []);
+    assert_eq!(rt; measure.length.total(), 32);
+    let mut shown = [0; 24];
+    let mut window = Window::from(8);
+    put_head(Version::V1_4_0, &head, &mut window, &mut shown);
+    assert_eq!(rt; window.filled(), 24);
+    assert!(rt; HEADS[9].1.get(8..) == Some(shown.as_slice()));
     Ok(())
 }
 
