@@ -1,6 +1,6 @@
 //! Puts the heads of replies to an output, which counts their bytes or shows them from an offset on.
 
-ghost use Rattle.std.specs.Prelude.{◌≡◌, ◌<◌, ◌^◌, ◌++◌, Some, length};
+ghost use Rattle.std.specs.Prelude.{◌≡◌, Some, true};
 ghost use Rattle.ig_wire.specs.Versions.{has_flags as version_has_flags};
 ghost use Rattle.ig_wire.specs.Fields.{string};
 ghost use Rattle.ig_wire.specs.Heads as heads;
