@@ -1,6 +1,13 @@
-//! Laws of hellos, their replies, and heads. These functions do nothing; their contracts say what holds of all bytes.
+//! Laws of hellos, their replies, and heads. These functions do nothing; their contracts say what
+//! holds of all bytes.
 
+ghost use Rattle.std.specs.Prelude.{◌≡◌};
+ghost use Rattle.ig_base.specs.Frames.{client, server, server_1_4};
 ghost use Rattle.ig_wire.specs.Laws.{GreetingIsRight, OneGreeting, WrittenHelloIsRead, HelloTellsApart, WrittenReplyIsRead, ReadReplyIsSpelled, ReplyTellsApart, ReplyStopsRightly, ReplyStopIsRead, WrittenHeadIsRead, ReadHeadIsSpelled, HeadTellsApart, HeadStopsRightly, HeadStopIsRead};
+
+use crate::ask::ASK_HEAD;
+use crate::greeting::LEAST_HELLO;
+use crate::hello_reply_calls::LEAST_HELLO_REPLY;
 
 /// The answer that reading a hello gives is the one right answer: the version accepted, or the first of
 /// the four refusals. A hello that was written is accepted, and no two have the same bytes.
@@ -28,4 +35,12 @@ pub fn one_head()
     ensures apart { HeadTellsApart }
     ensures stops { HeadStopsRightly }
     ensures stopped { HeadStopIsRead }
+{}
+
+/// The least lengths of bodies are those by which a stream is cut into frames.
+pub fn least_lengths()
+    ensures hello { LEAST_HELLO ≡ client.first }
+    ensures request { ASK_HEAD ≡ client.later }
+    ensures hello_reply { LEAST_HELLO_REPLY ≡ server.first }
+    ensures hello_reply_1_4 { LEAST_HELLO_REPLY ≡ server_1_4.first }
 {}
