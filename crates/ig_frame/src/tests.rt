@@ -24,21 +24,6 @@ static LENGTHS: [([u8; 4], Option<i32>); 6] = [
     ([0, 0, 0, 0x80], Some(i32::MIN)),
 ];
 
-/// A hello.
-static HELLO: [u8; 12] = [8, 0, 0, 0, 1, 1, 0, 0, 0, 0, 0, 2];
-
-/// What follows the hello, and how many bytes are missing of the next frame, or the length that is
-/// out of range. Its least length is 10.
-static AFTER_HELLO: [(&[u8], Result<u64, i32>); 7] = [
-    (&[], Ok(4)),
-    (&[0x14, 0], Ok(2)),
-    (&[0x14, 0, 0, 0, 0xE8, 3], Ok(18)),
-    (&[0, 0, 0x80, 0], Ok(8_388_608)),
-    (&[1, 0, 0x80, 0], Err(8_388_609)),
-    (&[9, 0, 0, 0], Err(9)),
-    (&[0xFF, 0xFF, 0xFF, 0xFF], Err(-1)),
-];
-
 static ZEROS: [u8; 65_536] = [0; 65_536];
 
 /// Takes the frames that are there. Answers how many there were so far, or none where one is wrong.
@@ -110,28 +95,6 @@ fn lengths_out_of_range(rt: HostRuntime) -> Result<(), Fail> {
     for (bytes, length) in &LENGTHS {
         let wanted = length.map(|n| (5, n));
         assert_eq!(rt; refused(rt.alloc(), bytes)?, wanted);
-    }
-    Ok(())
-}
-
-/// What is missing after the hello and these bytes, or the length that is refused at its place.
-fn after_hello(alloc: Global, bytes: &[u8]) -> Result<Option<Result<u64, i32>>, NoMemory> {
-    let mut frames = Frames::new(alloc, MAX_FRAME);
-    frames.feed(&HELLO)?;
-    frames.pass(8);
-    frames.feed(bytes)?;
-    match frames.next(10) {
-        Next::More { missing } => Ok(Some(Ok(missing))),
-        Next::Bad { place: 12, length } => Ok(Some(Err(length))),
-        _ => Ok(None),
-    }
-}
-
-/// The first frame of a client may be shorter than those after it.
-#[test]
-fn second_frames(rt: HostRuntime) -> Result<(), Fail> {
-    for (bytes, wanted) in &AFTER_HELLO {
-        assert_eq!(rt; after_hello(rt.alloc(), bytes)?, Some(*wanted));
     }
     Ok(())
 }
