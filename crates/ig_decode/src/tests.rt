@@ -294,7 +294,7 @@ fn nested_objects(alloc: Global, levels: u32) -> Result<Vec<u8>, AllocError> {
     let mut inner = Vec::new(alloc);
     inner.push(101)?;
     for _ in 0..levels {
-        let end = (inner.len() as u32).wrapping_add(24);
+        let end = u32::try_from(inner.len()).unwrap_or(0).wrapping_add(24);
         let mut bytes = Vec::new(alloc);
         bytes.extend_from_slice(&[0x67, 1, 43, 0, 112, 0, 0, 0])?;
         bytes.extend_from_slice(&bytes_hash(&inner).to_le_bytes())?;

@@ -109,6 +109,17 @@ fn read(rt: &(impl Clock + AllocGlobal), bytes: &[u8]) -> Result<u128> {
     Ok(nanos)
 }
 
+/// The least times of writing and of reading the value, in nanoseconds, over these rounds.
+fn times(rt: &(impl Clock + AllocGlobal), rounds: u32, value: &Value) -> Result<(u128, u128)> {
+    let (mut writing, mut reading) = (u128::MAX, u128::MAX);
+    for _ in 0..rounds {
+        let mut bytes = Octets::empty(rt.alloc());
+        writing = writing.min(write(rt, value, &mut bytes)?);
+        reading = reading.min(read(rt, bytes.as_slice())?);
+    }
+    Ok((writing, reading))
+}
+
 /// Writes and reads the value in each round.
 fn measure(
     rt: &(impl Print + Eprint + Clock + AllocGlobal),
@@ -117,13 +128,10 @@ fn measure(
     size: i32,
 ) -> Result<()> {
     let value = named(rt.alloc(), name, size)?;
-    let (mut writing, mut reading) = (u128::MAX, u128::MAX);
-    for _ in 0..rounds {
-        let mut bytes = Octets::empty(rt.alloc());
-        writing = writing.min(write(rt, &value, &mut bytes)?);
-        reading = reading.min(read(rt, bytes.as_slice())?);
-    }
+    let times = times(rt, rounds, &value);
     let length = canonical_len(&value);
+    drop(value);
+    let (writing, reading) = times?;
     println!(rt; "{name} of {size}: {length} bytes")?;
     eprintln!(rt; "decode {reading} encode {writing}")?;
     Ok(())
