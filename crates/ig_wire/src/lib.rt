@@ -26,6 +26,7 @@ mod unread;
 mod version;
 
 pub use ask::{ASK_HEAD, AskFault, Profile, read_ask};
+pub use fields::{i32_of, i64_of, node_of, string_of};
 pub use greeting::{HELLO, LEAST_HELLO, THIN_CLIENT, read_hello};
 pub use head::{Fault, ReplyHead};
 pub use head_calls::{ERROR, TOPOLOGY, read_head};
@@ -40,7 +41,10 @@ pub use hello_writing::{hello_len, write_hello};
 pub use laws::{least_lengths, one_greeting, one_head, one_hello_reply};
 pub use limits::{CACHE_CHANGES, CACHES, OPEN_CURSORS, PENDING_CALLS, PIECE, SESSION_BYTES};
 pub use operation::Operation;
+pub use owned::text_of;
+pub use read_error::ReadError;
 pub use reason::Reason;
+pub use stop::Stop;
 pub use unread::{ReadFault, Unread};
 pub use version::Version;
 

@@ -210,7 +210,7 @@ fn is_frame(bytes: &[u8], length: u8, body: &[u8]) -> bool {
 #[test]
 fn hellos_are_written(rt: HostRuntime) -> Result<(), Fail> {
     let mut out = Octets::empty(rt.alloc());
-    assert_eq!(rt; hello_len(Version::V1_0_0, None), 8);
+    assert_eq!(rt; hello_len(None), 8);
     write_hello(rt.alloc(), Version::V1_0_0, None, &mut out)?;
     assert!(rt; out.as_slice() == [8, 0, 0, 0, 1, 1, 0, 0, 0, 0, 0, 2].as_slice());
     let login = Login {
@@ -218,7 +218,7 @@ fn hellos_are_written(rt: HostRuntime) -> Result<(), Fail> {
         password: text(rt.alloc(), "p")?,
     };
     out.clear();
-    assert_eq!(rt; hello_len(Version::V1_1_0, Some(&login)), 20);
+    assert_eq!(rt; hello_len(Some(&login)), 20);
     write_hello(rt.alloc(), Version::V1_1_0, Some(&login), &mut out)?;
     assert!(rt; is_frame(out.as_slice(), 20, HELLOS[3].0));
     Ok(())
