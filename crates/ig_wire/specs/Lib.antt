@@ -10,5 +10,6 @@ pub mod HeadAnswers
 pub mod HeadViews
 pub mod Profiles
 pub mod Laws
+pub mod Limits
 pub mod Operations
 pub mod Reasons

@@ -38,7 +38,7 @@ pub use hello_reply::HelloReply;
 pub use hello_reply_calls::{LEAST_HELLO_REPLY, read_hello_reply};
 pub use hello_reply_writing::{hello_reply_len, write_hello_reply};
 pub use hello_writing::{hello_len, write_hello};
-pub use laws::{least_lengths, one_greeting, one_head, one_hello_reply};
+pub use laws::{greatest_counts, least_lengths, one_greeting, one_head, one_hello_reply, versions};
 pub use limits::{CACHE_CHANGES, CACHES, OPEN_CURSORS, PENDING_CALLS, PIECE, SESSION_BYTES};
 pub use operation::Operation;
 pub use owned::text_of;
