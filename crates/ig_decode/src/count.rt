@@ -10,13 +10,13 @@ use std::alloc::{AllocError, Global};
 /// is private. A reader can take the items off one by one ([`StatedCount::take_one`]), and reserve
 /// room for at most as many as bytes are left ([`StatedCount::room`]).
 #[derive(Clone, Copy, Debug)]
-pub(crate) struct StatedCount {
+pub struct StatedCount {
     items: usize,
 }
 
 impl StatedCount {
     /// The count that the input states.
-    pub(crate) fn new(items: usize) -> StatedCount
+    pub fn new(items: usize) -> StatedCount
         ensures { result.items ≡ items }
     {
         StatedCount { items }
@@ -24,7 +24,7 @@ impl StatedCount {
 
     /// Takes one item off the count. Answers whether there was one.
     #[inline(always)]
-    pub(crate) fn take_one(&mut self) -> bool
+    pub fn take_one(&mut self) -> bool
         ensures more { IsTrue result → self.old.items ≡ suc self.new.items }
         ensures none { IsFalse result → self.old.items ≡ 0 }
     {
@@ -49,7 +49,7 @@ impl StatedCount {
     /// How many values to reserve room for before they are read; the list grows with those that are
     /// there. So nested lists that all state too many items reserve at most this much at each
     /// level.
-    pub(crate) fn first_room(self, rest: &[u8]) -> usize
+    pub fn first_room(self, rest: &[u8]) -> usize
         ensures stated { result ≤ min self.items (length rest.now) }
         ensures few { result ≤ 256 }
     {

@@ -26,6 +26,7 @@ mod value;
 
 pub use answer::Decoded;
 pub use calls::{decode, decode_at, is_canonical};
+pub use count::StatedCount;
 pub use fault::{DecodeFault, Refusal};
 pub use ig_value::Cause;
 pub use text::text_at;

@@ -5,6 +5,7 @@ ghost use Rattle.ig_base.specs.Numbers.{AreBytes};
 ghost use Rattle.ig_base.specs.Frames.{Side, max_body, least_after, Body, HasNoFrame, Cut};
 ghost use Rattle.ig_frame.specs.Streams.{Stream, new_stream, longer_stream, front_at, stream_after_frame, StandsFor, HandedOut};
 
+use crate::frames::MAX_FRAME;
 use ig_base::{frame_is_read, frames_follow};
 
 /// A `Frames` stands for the stream that it was fed, at the offset after the frames that it handed out:
@@ -24,10 +25,11 @@ pub fn place_in_the_stream()
     frame_is_read();
 }
 
-/// A `Frames` whose limit is that of the protocol cuts the stream of a side, however it was cut into
+/// A `Frames` whose limit is `MAX_FRAME` cuts the stream of a side, however it was cut into
 /// pieces: the bodies handed out are those of the first frames of the stream, the place is the length
 /// of these frames, and where no whole frame is there they are the cut of what was fed.
 pub fn frames_cut_the_stream()
+    ensures limit { MAX_FRAME ≡ max_body }
     ensures unfed { (side : Side) (limit : ℕ) → HandedOut side (new_stream limit) [] [] }
     ensures fed { (side : Side) (s : Stream) (input piece : List ℕ) (bodies : List (List ℕ))
         → HandedOut side s input bodies → HandedOut side (longer_stream s piece) (input ++ piece) bodies }

@@ -24,6 +24,31 @@ static LENGTHS: [([u8; 4], Option<i32>); 6] = [
     ([0, 0, 0, 0x80], Some(i32::MIN)),
 ];
 
+/// A hello.
+const HELLO: &[u8] = &[8, 0, 0, 0, 1, 1, 0, 0, 0, 0, 0, 2];
+
+/// A hello, and a put of 25 bytes.
+const HELLO_AND_PUT: &[u8] =
+    b"\x08\0\0\0\x01\x01\0\0\0\0\0\x02\x19\0\0\0\xE9\x03\x01\0\0\0\0\0\0\0\xB9\x05\x33\0\0\x03\x01\0\0\0\x03\x02\0\0\0";
+
+/// Streams of a client from their first frame on, what follows these frames, and how many bytes are
+/// missing then.
+static MISSING: [(&[u8], &[u8], u64); 6] = [
+    (&[], &[], 4),
+    (HELLO, &[], 4),
+    (HELLO, &[0, 0, 0x80, 0], 8_388_608),
+    (HELLO_AND_PUT, &[], 4),
+    (HELLO_AND_PUT, &[0x14, 0], 2),
+    (HELLO_AND_PUT, &[0x14, 0, 0, 0, 0xE8, 3], 18),
+];
+
+/// Lengths after the hello that are out of range.
+static REFUSED: [([u8; 4], i32); 3] = [
+    ([0xFF, 0xFF, 0xFF, 0xFF], -1),
+    ([9, 0, 0, 0], 9),
+    ([1, 0, 0x80, 0], 8_388_609),
+];
+
 static ZEROS: [u8; 65_536] = [0; 65_536];
 
 /// Takes the frames that are there. Answers how many there were so far, or none where one is wrong.
@@ -95,6 +120,36 @@ fn lengths_out_of_range(rt: HostRuntime) -> Result<(), Fail> {
     for (bytes, length) in &LENGTHS {
         let wanted = length.map(|n| (5, n));
         assert_eq!(rt; refused(rt.alloc(), bytes)?, wanted);
+    }
+    Ok(())
+}
+
+/// A client's stream with its first frames passed, and then fed these bytes.
+fn passed(alloc: Global, whole: &[u8], further: &[u8]) -> Result<Frames, NoMemory> {
+    let mut frames = Frames::new(alloc, MAX_FRAME);
+    frames.feed(whole)?;
+    frames.pass(8);
+    frames.pass(10);
+    frames.feed(further)?;
+    Ok(frames)
+}
+
+/// A stream that stops tells how many bytes are missing, to the end of the length or of the frame.
+#[test]
+fn streams_that_stop(rt: HostRuntime) -> Result<(), Fail> {
+    for (whole, further, missing) in &MISSING {
+        let frames = passed(rt.alloc(), whole, further)?;
+        assert_eq!(rt; frames.look(10), Next::More { missing: *missing });
+    }
+    for (bytes, length) in &REFUSED {
+        let frames = passed(rt.alloc(), HELLO, bytes)?;
+        assert_eq!(rt;
+            frames.look(10),
+            Next::Bad {
+                place: 12,
+                length: *length
+            }
+        );
     }
     Ok(())
 }

@@ -3,6 +3,7 @@
 use crate::door::{Door, Opened};
 use crate::mem_link::MemLink;
 use std::marker::Model;
+use std::vec::IntoIter;
 
 /// A step of a [`MemDoor`].
 #[derive(Drop)]
@@ -17,7 +18,7 @@ pub enum DoorStep {
 /// last step it ends. It tells the links still to come.
 #[derive(Drop)]
 pub struct MemDoor {
-    steps: Vec<DoorStep>,
+    steps: IntoIter<DoorStep>,
     faults: u64,
     opened: u64,
     ended: bool,
@@ -45,7 +46,7 @@ impl MemDoor {
         ensures { result ≡ initial_door steps.items }
     {
         MemDoor {
-            steps,
+            steps: steps.into_iter(),
             faults: 0,
             opened: 0,
             ended: false,
@@ -74,16 +75,16 @@ impl MemDoor {
     fn follow_accept(&mut self) -> Opened<MemLink>
         ensures { ScriptAccepts result self.old self.new }
     {
-        if self.steps.is_empty() {
-            self.ended = true;
-            return Opened::End;
-        }
-        match self.steps.remove(0) {
-            DoorStep::Link(link) => {
+        match self.steps.next() {
+            None => {
+                self.ended = true;
+                Opened::End
+            }
+            Some(DoorStep::Link(link)) => {
                 self.opened = self.opened.saturating_add(1);
                 Opened::Link(link)
             }
-            DoorStep::Fault => {
+            Some(DoorStep::Fault) => {
                 self.faults = self.faults.saturating_add(1);
                 Opened::Failed
             }

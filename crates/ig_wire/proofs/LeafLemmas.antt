@@ -36,11 +36,11 @@ same_16 : (s : List ℕ) (b : Bool) → nat_lt (length s) 2 ≡ b → placed (sc
 same_16 s true e = rw e refl
 same_16 s false e = rw e refl
 
-same_32 : (s : List ℕ) (b : Bool) → nat_lt (length s) 4 ≡ b → placed (scalar_at i32 s) ≡ number_of w32 s
+pub same_32 : (s : List ℕ) (b : Bool) → nat_lt (length s) 4 ≡ b → placed (scalar_at i32 s) ≡ number_of w32 s
 same_32 s true e = rw e refl
 same_32 s false e = rw e refl
 
-same_64 : (s : List ℕ) (b : Bool) → nat_lt (length s) 8 ≡ b → placed (scalar_at i64 s) ≡ number_of w64 s
+pub same_64 : (s : List ℕ) (b : Bool) → nat_lt (length s) 8 ≡ b → placed (scalar_at i64 s) ≡ number_of w64 s
 same_64 s true e = rw e refl
 same_64 s false e = rw e refl
 

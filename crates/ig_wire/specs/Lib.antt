@@ -7,7 +7,9 @@ pub mod HelloReplies
 pub mod Heads
 pub mod ReadAnswers
 pub mod HeadAnswers
+pub mod HeadViews
 pub mod Profiles
 pub mod Laws
+pub mod Limits
 pub mod Operations
 pub mod Reasons

@@ -26,6 +26,10 @@ version_1_1 = record { major = pos 1; minor = pos 1; patch = pos 0 }
 abbrev pub version_1_4 : Version
 version_1_4 = record { major = pos 1; minor = pos 4; patch = pos 0 }
 
+-- the highest version that is spoken
+abbrev pub highest_version : Version
+highest_version = version_1_4
+
 abbrev pub is_same : Version → Version → Bool
 is_same a b = int_eq a.major b.major && (int_eq a.minor b.minor && int_eq a.patch b.patch)
 

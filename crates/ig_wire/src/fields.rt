@@ -23,7 +23,7 @@ pub(crate) fn i16_of(bytes: &[u8]) -> Result<(i16, &[u8]), Stop>
 }
 
 /// An Int32.
-pub(crate) fn i32_of(bytes: &[u8]) -> Result<(i32, &[u8]), Stop>
+pub fn i32_of(bytes: &[u8]) -> Result<(i32, &[u8]), Stop>
     ensures { FieldAnswers (λ x. (x.0, x.1.now)) result (number_of w32 bytes.now) }
 {
     match get_i32(bytes, 0) {
@@ -33,7 +33,7 @@ pub(crate) fn i32_of(bytes: &[u8]) -> Result<(i32, &[u8]), Stop>
 }
 
 /// An Int64.
-pub(crate) fn i64_of(bytes: &[u8]) -> Result<(i64, &[u8]), Stop>
+pub fn i64_of(bytes: &[u8]) -> Result<(i64, &[u8]), Stop>
     ensures { FieldAnswers (λ x. (x.0, x.1.now)) result (number_of w64 bytes.now) }
 {
     match get_i64(bytes, 0) {
@@ -43,7 +43,7 @@ pub(crate) fn i64_of(bytes: &[u8]) -> Result<(i64, &[u8]), Stop>
 }
 
 /// A String.
-pub(crate) fn string_of(bytes: &[u8]) -> Result<(&str, &[u8]), Stop>
+pub fn string_of(bytes: &[u8]) -> Result<(&str, &[u8]), Stop>
     ensures { FieldAnswers (λ x. (x.0.now, x.1.now)) result (string_read bytes.now) }
 {
     match text_at(bytes, 0) {
@@ -80,7 +80,7 @@ fn u64_of(bytes: &[u8]) -> Result<(u64, &[u8]), Stop>
 }
 
 /// The identifier of a node: the data object of a UUID.
-pub(crate) fn node_of(bytes: &[u8]) -> Result<(NodeId, &[u8]), Stop>
+pub fn node_of(bytes: &[u8]) -> Result<(NodeId, &[u8]), Stop>
     ensures { FieldAnswers (λ x. (x.0, x.1.now)) result (node_read bytes.now) }
 {
     let left = bytes.len();

@@ -59,7 +59,7 @@ fn put_told(
 }
 
 /// The flags for these parts.
-fn flag_number(told: bool, fault: bool) -> i16
+pub(crate) fn flag_number(told: bool, fault: bool) -> i16
     ensures { result ≡ heads.flag_number told fault }
 {
     match (told, fault) {

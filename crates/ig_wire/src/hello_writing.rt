@@ -3,6 +3,7 @@
 ghost use Rattle.std.specs.Prelude.{◌≡◌, ◌≤◌, ◌++◌, length, OnOk, OnErr};
 ghost use Rattle.std.specs.Option.{option_copied};
 ghost use Rattle.ig_base.specs.Frames.{Frame, max_body};
+ghost use Rattle.ig_wire.specs.declared.version.Version as specs;
 ghost use Rattle.ig_wire.specs.Greets.{MayLogin, hello_bytes, hello_start, thin_client};
 
 use crate::greeting::{HELLO, LEAST_HELLO, THIN_CLIENT};
@@ -13,8 +14,8 @@ use ig_base::{NoMemory, Octets};
 use std::alloc::Global;
 
 /// The length of a hello's body, which is the same at each version.
-pub fn hello_len(_version: Version, login: Option<&Login>) -> u128
-    ensures { result ≡ length (hello_bytes _version (option_copied login.entry)) }
+pub fn hello_len(login: Option<&Login>) -> u128
+    ensures { (v : specs.Version) → result ≡ length (hello_bytes v (option_copied login.entry)) }
 {
     match login {
         None => LEAST_HELLO as u128,

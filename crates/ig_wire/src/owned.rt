@@ -10,7 +10,7 @@ use ig_base::Text;
 use std::alloc::Global;
 
 /// A String, as a text of its own.
-pub(crate) fn text_of(alloc: Global, bytes: &[u8]) -> Result<(Text, &[u8]), ReadError>
+pub fn text_of(alloc: Global, bytes: &[u8]) -> Result<(Text, &[u8]), ReadError>
     ensures { ReadAnswers (λ x. (x.0, x.1.now)) result (string_read bytes.now) }
 {
     let (text, rest) = string_of(bytes)?;

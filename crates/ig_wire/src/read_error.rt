@@ -4,11 +4,11 @@ ghost use Rattle.std.specs.Prelude.{◌≡◌};
 ghost use Rattle.ig_wire.specs.declared.read_error.ReadError.TheVariants as error;
 
 use crate::stop::Stop;
-use std::alloc::AllocError;
+use std::alloc::{AllocError, AllocFailed};
 
 /// Why a field that takes memory could not be read.
 #[derive(Clone, Copy, Debug)]
-pub(crate) enum ReadError {
+pub enum ReadError {
     NoMemory,
     Stopped(Stop),
 }
@@ -25,6 +25,14 @@ impl From<AllocError> for ReadError {
     ghost from_gives = { λ _ e. e ≡ error.NoMemory };
 
     fn from(_error: AllocError) -> ReadError {
+        ReadError::NoMemory
+    }
+}
+
+impl<T: Drop> From<AllocFailed<T>> for ReadError {
+    ghost from_gives = { λ _ e. e ≡ error.NoMemory };
+
+    fn from(_error: AllocFailed<T>) -> ReadError {
         ReadError::NoMemory
     }
 }

@@ -5,7 +5,7 @@ const LENGTH_BYTES: usize = 4;
 
 /// The first wrong item of a message.
 #[derive(Clone, Copy, Debug)]
-pub(crate) struct Stop {
+pub struct Stop {
     /// How many bytes are left where it begins.
     pub left: usize,
 }

@@ -1,5 +1,6 @@
 use super::*;
 use ig_base::{NoMemory, NodeId, Octets, Text, Topology};
+use ig_encode::{Measure, Window};
 use std::alloc::Global;
 use std::test::Fail;
 
@@ -209,7 +210,7 @@ fn is_frame(bytes: &[u8], length: u8, body: &[u8]) -> bool {
 #[test]
 fn hellos_are_written(rt: HostRuntime) -> Result<(), Fail> {
     let mut out = Octets::empty(rt.alloc());
-    assert_eq!(rt; hello_len(Version::V1_0_0, None), 8);
+    assert_eq!(rt; hello_len(None), 8);
     write_hello(rt.alloc(), Version::V1_0_0, None, &mut out)?;
     assert!(rt; out.as_slice() == [8, 0, 0, 0, 1, 1, 0, 0, 0, 0, 0, 2].as_slice());
     let login = Login {
@@ -217,7 +218,7 @@ fn hellos_are_written(rt: HostRuntime) -> Result<(), Fail> {
         password: text(rt.alloc(), "p")?,
     };
     out.clear();
-    assert_eq!(rt; hello_len(Version::V1_1_0, Some(&login)), 20);
+    assert_eq!(rt; hello_len(Some(&login)), 20);
     write_hello(rt.alloc(), Version::V1_1_0, Some(&login), &mut out)?;
     assert!(rt; is_frame(out.as_slice(), 20, HELLOS[3].0));
     Ok(())
@@ -462,6 +463,31 @@ fn heads_say_what_they_tell(rt: HostRuntime) -> Result<(), Fail> {
         read_ask(&[0xE9, 3, 1, 0, 0, 0, 0, 0, 0, 0x80, 7]),
         (1_001, i64::MIN + 1)
     );
+    Ok(())
+}
+
+/// A head is measured, and shown from its flags on.
+#[test]
+fn heads_are_shown(rt: HostRuntime) -> Result<(), Fail> {
+    let head = HeadView {
+        id: 3,
+        told: Some(Topology {
+            version: 1,
+            minor: 5,
+        }),
+        fault: Some(FaultView {
+            status: 1_000,
+            text: "a",
+        }),
+    };
+    let mut measure = Measure::counting();
+    put_head(Version::V1_4_0, &head, &mut measure, &mut []);
+    assert_eq!(rt; measure.length.total(), 32);
+    let mut shown = [0; 24];
+    let mut window = Window::from(8);
+    put_head(Version::V1_4_0, &head, &mut window, &mut shown);
+    assert_eq!(rt; window.filled(), 24);
+    assert!(rt; HEADS[9].1.get(8..) == Some(shown.as_slice()));
     Ok(())
 }
 

@@ -8,11 +8,11 @@ text_length : (a b : List ℕ) (n : ℕ) → n ≡ length (string a) → a ≡ b
 text_length a b n size same = size ∙ ap (λ (l : List ℕ). length (string l)) same
 
 pub returns-in-None : goal.returns-in-None
-returns-in-None c = rw c.in-None.is (sym (length-hello-none c.args._version))
+returns-in-None c = λ v. rw c.in-None.is (sym (length-hello-none v))
 
 pub returns-in-Some : goal.returns-in-Some
-returns-in-Some c =
+returns-in-Some c = λ v.
     let login = c.in-Some.login.now in
     let name = text_length c.as_str.result.now login.name c.string_len-name.result c.string_len-name.ensures.exact c.as_str.ensures in
     let password = text_length c.as_str-in-Some.result.now login.password c.string_len-password.result c.string_len-password.ensures.exact c.as_str-in-Some.ensures in
-    rw c.in-Some.is (omega (arith, name, password, length-hello-some c.args._version login))
+    rw c.in-Some.is (omega (arith, name, password, length-hello-some v login))
