@@ -189,6 +189,7 @@ struct Measured {
     showing: u128,
 }
 
+/// Writes, reads and shows the value as often as there are rounds.
 fn times(rt: &(impl Clock + AllocGlobal), rounds: u32, value: &Value) -> Result<Measured> {
     let (mut reading, mut writing, mut showing) = (u128::MAX, u128::MAX, u128::MAX);
     for _ in 0..rounds {
@@ -197,10 +198,14 @@ fn times(rt: &(impl Clock + AllocGlobal), rounds: u32, value: &Value) -> Result<
         reading = reading.min(read(rt, bytes.as_slice())?);
         showing = showing.min(show(rt, value)?);
     }
-    Ok(Measured { reading, writing, showing })
+    Ok(Measured {
+        reading,
+        writing,
+        showing,
+    })
 }
 
-/// Writes and reads the value in each round.
+/// Writes, reads and shows the value in each round, and tells the least times.
 fn measure(
     rt: &(impl Print + Eprint + Clock + AllocGlobal),
     rounds: u32,
@@ -211,7 +216,11 @@ fn measure(
     let times = times(rt, rounds, &value);
     let length = canonical_len(&value);
     drop(value);
-    let Measured { reading, writing, showing } = times?;
+    let Measured {
+        reading,
+        writing,
+        showing,
+    } = times?;
     println!(rt; "{name} of {size}: {length} bytes")?;
     eprintln!(rt; "decode {reading} encode {writing} pieces {showing}")?;
     Ok(())

@@ -1,4 +1,3 @@
-use Rattle.std.proofs.Common.{rules}
 use Rattle.value_bench.proofs.show.Goals as goal
 
 pub loop-init : goal.loop-init
