@@ -1,0 +1,10 @@
+pub mod FieldLemmas
+pub mod ListedLemmas
+pub mod FormatLemmas
+pub mod WrittenLemmas
+pub mod FitsLemmas
+pub mod LoopLemmas
+pub mod AskLemmas
+pub mod WrittenTableLemmas
+pub mod FrameLemmas
+pub mod RowLemmas

@@ -1,0 +1,13 @@
+pub mod Format
+pub mod SpellsFields
+pub mod StopsFields
+pub mod ReadingFields
+pub mod FieldBytes
+pub mod Laws
+pub mod Views
+pub mod Ask
+pub mod AsksRightly
+pub mod ShowsRightly
+pub mod TableLaws
+pub mod AskAnswers
+pub mod ShownAnswers
