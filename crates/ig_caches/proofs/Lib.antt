@@ -1,0 +1,12 @@
+pub mod ItemLemmas
+pub mod RowEntryLemmas
+pub mod RowLemmas
+pub mod FormLemmas
+pub mod SameLemmas
+pub mod MentionLemmas
+pub mod ReserveLemmas
+pub mod CacheLemmas
+pub mod KeyLemmas
+pub mod FitLemmas
+pub mod ScanLemmas
+pub mod StartLemmas

@@ -1,0 +1,15 @@
+pub mod Rows
+pub mod RowEntries
+pub mod Reserved
+pub mod PlainCaches
+pub mod Effect
+pub mod RunsOnRows
+pub mod Answered
+pub mod IsRunnable
+pub mod AnswersKind
+pub mod Legal
+pub mod Laws
+pub mod Starts
+pub mod AddsName
+pub mod RunsOn
+pub mod CachesView
