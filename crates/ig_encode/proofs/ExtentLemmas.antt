@@ -1,5 +1,5 @@
 -- How many bytes an object has, and an object that is written over a slice of its length.
-use Rattle.std.proofs.Common.{◌≡◌, ℕ, ◌+◌, ◌-◌, ◌*◌, ◌<◌, ◌≤◌, ℤ, pos, Option, Some, None, List, [], ◌∷◌, ◌++◌, length, map, take, drop, get_or, refl, sym, ap, ◌∙◌, arith, length-append, drop_of_length-le, SomeIff, IfSome}
+use Rattle.std.proofs.Common.{◌≡◌, ℕ, ◌+◌, ◌-◌, ◌*◌, ◌^◌, ◌<◌, ◌≤◌, ℤ, pos, Option, Some, None, List, [], ◌∷◌, ◌++◌, length, map, take, drop, get_or, refl, sym, ap, ◌∙◌, arith, length-append, drop_of_length-le, SomeIff, IfSome}
 use Rattle.std.specs.Int.{w32, byte_len}
 use Rattle.std.specs.List.{flat_map}
 use Rattle.std.proofs.lemmas.List.{append-nil, take_all, take-append-drop}
@@ -20,7 +20,7 @@ use Rattle.ig_encode.specs.declared.window.Window.{Window}
 use Rattle.ig_encode.specs.MeasureOutput.{measure_after, count_after, no_length}
 use Rattle.ig_encode.specs.WindowOutput.{window_after}
 use Rattle.ig_encode.specs.Spans.{type_of, least_width, field_offsets, entry_size, canonical_header, extent_of, field_footer, least_footer}
-use Rattle.ig_encode.proofs.OutputLemmas.{length-flat_wide}
+use Rattle.ig_encode.proofs.OutputLemmas.{length-flat_wide, flat_map_more}
 use Rattle.ig_encode.proofs.SpanLemmas.{offsets_more, offsets_len, last_more, object_split, header_len, only_counted}
 
 -- ---- lengths
@@ -132,3 +132,17 @@ object_written bits type shape fields head room footer h r f = rw (h, r, f) (ap 
 
 pub from_start : (w : Window) → w.skip ≡ 0 → w.filled ≡ 0 → w ≡ fresh_window
 from_start w skip filled = ap (λ (n : ℕ). record { skip = n; filled = w.filled }) skip ∙ ap (λ (n : ℕ). record { skip = 0; filled = n }) filled
+
+-- the last field alone, and the fields before it
+pub last_alone : (fields : List Value) (i : ℕ) (x : Value) → i + 1 ≡ length fields → x ≡ get_or fields i x → (last_of (field_offsets fields) ≡ 24 + length (flat_map Canon (take i fields))) × (length (flat_map Canon fields) ≡ length (flat_map Canon (take i fields)) + length (Canon x))
+last_alone fields i x one item =
+    let all : take (i + 1) fields ≡ fields = take_all (i + 1) fields (omega (arith, one)) in
+    let lt : i < length fields = omega (arith, one) in
+    let bytes : flat_map Canon fields ≡ flat_map Canon (take i fields) ++ Canon x = ap (flat_map Canon) (sym all) ∙ flat_map_more Canon fields i x lt ∙ ap (λ (y : Value). flat_map Canon (take i fields) ++ Canon y) (sym item) in (
+      ap (λ (l : List Value). last_of (field_offsets l)) (sym all) ∙ last_next fields i x lt,
+      ap length bytes ∙ length-append (flat_map Canon (take i fields)) (Canon x),
+    )
+
+-- the low number of a length that is less than 2^64
+pub low_of : (l : Length) (n : ℕ) → l ≡ count_after no_length n → n < 2 ^ 64 → l.low ≡ n
+low_of l n is lt = ap (λ (k : Length). k.low) is ∙ (let e : (count_after no_length n).low ≡ n = omega (arith, lt) in e)

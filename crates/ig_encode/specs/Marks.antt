@@ -1,5 +1,5 @@
 -- Marks: an offset in the canonical form of a value, and the path to it through the values inside.
-use Rattle.std.specs.Prelude.{◌≡◌, ℕ, ◌+◌, ◌-◌, ◌≤◌, List, [], ◌∷◌, length, take, slice_get, ◌==◌, if◌then◌else◌}
+use Rattle.std.specs.Prelude.{◌≡◌, ℕ, ◌+◌, ◌-◌, ◌≤◌, List, [], ◌∷◌, length, take, slice_get}
 use Rattle.std.specs.List.{flat_map}
 use Rattle.ig_value.specs.declared.code.Code.{Code}
 use Rattle.ig_value.specs.declared.code.Code.TheVariants as code
@@ -61,12 +61,3 @@ tail_with whole _ = whole
 
 abbrev pub tail_bytes : Value → List ℕ
 tail_bytes v = tail_with (Canon v) (out-Value v)
-
--- the first of these steps, or else one to the first value inside
-abbrev pub first_of : ℕ → List Step → Step
-first_of head [] = record { index = 0; before = head }
-first_of head (step ∷ steps) = step
-
--- how many of the steps below stay, where the first one was `start` and is `step` now
-abbrev pub kept_steps : ℕ → Step → Step → ℕ
-kept_steps known start step = if step.index == start.index then known - 1 else 0

@@ -7,12 +7,13 @@ ghost use Rattle.ig_base.specs.Hashes.{BytesHash};
 ghost use Rattle.ig_value.specs.Canon.{Canon, IsSendable};
 ghost use Rattle.ig_encode.specs.Marks.{IsMarkOf};
 
+use crate::advance::move_path;
 use crate::fill_walk::fill_value;
 use crate::mark::Mark;
 use crate::measure::Measure;
 use crate::measure_walk::{measure_value, measure_values};
 use crate::object::hash_of;
-use crate::resume::{fill_from, move_path};
+use crate::resume::fill_from;
 use crate::window::Window;
 use ig_base::{NoMemory, Octets};
 use ig_value::{Object, Value};
@@ -64,7 +65,8 @@ pub fn encode_next(value: &Value, mark: &mut Mark, into: &mut [u8]) -> usize
     fill_from(value, &mark.steps[..mark.depth], &mut window, into);
     let filled = window.filled;
     mark.offset += filled as u64;
-    mark.depth = move_path(value, &mut mark.steps[..], mark.depth, mark.offset);
+    let moved = move_path(value, &mut mark.steps[..], mark.depth, mark.offset);
+    mark.depth = moved.depth;
     filled
 }
 

@@ -1,13 +1,16 @@
 //! The footer of an object that is put piece by piece.
 
-ghost use Rattle.std.specs.Prelude.{◌≡◌};
-ghost use Rattle.ig_encode.specs.Spans.{type_of, field_footer, least_footer};
+ghost use Rattle.std.specs.Prelude.{◌≡◌, ◌+◌, length, IfSome};
+ghost use Rattle.std.specs.List.{flat_map};
+ghost use Rattle.ig_value.specs.Canon.{Canon};
+ghost use Rattle.ig_value.specs.Objects.{last_of};
+ghost use Rattle.ig_encode.specs.Spans.{type_of, field_offsets, offset_of, field_footer, least_footer};
 
 use crate::measure::Measure;
 use crate::measure_walk::{measure_extent, measure_value};
-use crate::object::{offset_after, put_entry};
+use crate::object::{entry_len, offset_after, offset_at, put_entry};
 use crate::output::Output;
-use crate::span::OffsetWidth;
+use crate::span::{Offset, OffsetWidth};
 use ig_value::{Shape, Value};
 
 /// Puts the footer of these fields, which it measures again for their offsets.
@@ -46,4 +49,30 @@ pub(crate) fn put_least_footer<S: Output>(
     }
     let extent = measure_extent(fields);
     put_footer(shape, fields, extent.last.width, out, into);
+}
+
+/// The length of the footer of these fields, which end at this offset of their object, if a number
+/// tells it. Counts the last field alone.
+pub(crate) fn footer_len(shape: &Shape, fields: &[Value], end: u64) -> Option<u64>
+    requires { end ≡ 24 + length (flat_map Canon fields.now) }
+    ensures { IfSome result (λ len. len ≡ length (least_footer shape.now fields.now)) }
+{
+    let last = last_offset(fields, end);
+    let entry = entry_len(shape, last.width);
+    (fields.len() as u64).checked_mul(entry as u64)
+}
+
+/// The offset of the last of these fields, which end at this offset of their object; 0 without
+/// fields.
+fn last_offset(fields: &[Value], end: u64) -> Offset
+    requires { end ≡ 24 + length (flat_map Canon fields.now) }
+    ensures { result ≡ offset_of (last_of (field_offsets fields.now)) }
+{
+    let count = fields.len();
+    if count == 0 {
+        return offset_at(0);
+    }
+    let mut measure = Measure::counting();
+    measure_value(&fields[count - 1], &mut measure);
+    offset_at(end - measure.length.low)
 }
