@@ -12,12 +12,13 @@ use Rattle.ig_value.specs.declared.value.Value.{Value}
 use Rattle.ig_value.specs.Canon.{Canon}
 use Rattle.ig_value.specs.Objects.{named_footer, last_of, object_bytes}
 use Rattle.ig_encode.specs.declared.length.Length.{Length}
+use Rattle.ig_encode.specs.declared.measure.Digest.{Digest}
 use Rattle.ig_encode.specs.declared.measure.Measure.{Measure}
 use Rattle.ig_encode.specs.declared.span.Extent.{Extent}
 use Rattle.ig_encode.specs.declared.span.OffsetWidth.{OffsetWidth}
 use Rattle.ig_encode.specs.declared.span.OffsetWidth.TheVariants.{One, Two, Four}
 use Rattle.ig_encode.specs.declared.window.Window.{Window}
-use Rattle.ig_encode.specs.MeasureOutput.{measure_after, count_after, no_length}
+use Rattle.ig_encode.specs.MeasureOutput.{measure_after, count_after, no_length, counting_start}
 use Rattle.ig_encode.specs.WindowOutput.{window_after}
 use Rattle.ig_encode.specs.Spans.{type_of, least_width, field_offsets, entry_size, canonical_header, extent_of, field_footer, least_footer}
 use Rattle.ig_encode.proofs.OutputLemmas.{length-flat_wide, flat_map_more}
@@ -146,3 +147,12 @@ last_alone fields i x one item =
 -- the low number of a length that is less than 2^64
 pub low_of : (l : Length) (n : ℕ) → l ≡ count_after no_length n → n < 2 ^ 64 → l.low ≡ n
 low_of l n is lt = ap (λ (k : Length). k.low) is ∙ (let e : (count_after no_length n).low ≡ n = omega (arith, lt) in e)
+
+-- a measure that begins with bytes of this length
+pub counted_from : (m : Measure) (low : ℕ) (bytes : List ℕ) → m ≡ counting_start → low ≡ length bytes → low < 2 ^ 64 → record { length = record { low = low; high = m.length.high }; digest = m.digest } ≡ measure_after counting_start bytes
+counted_from m low bytes is size lt =
+    let high : m.length.high ≡ 0 = ap (λ (n : Measure). n.length.high) is in
+    let digest : m.digest ≡ None = ap (λ (n : Measure). n.digest) is in
+    let len : record { low = low; high = m.length.high } ≡ count_after no_length (length bytes) = same_length (record { low = low; high = m.length.high }) (count_after no_length (length bytes)) (omega (arith, size, lt)) (omega (arith, size, lt, high)) in
+    let both : record { length = record { low = low; high = m.length.high }; digest = m.digest } ≡ measure_after counting_start bytes = ap (λ (l : Length). record { length = l; digest = m.digest }) len ∙ ap (λ (d : Option Digest). record { length = count_after no_length (length bytes); digest = d }) digest in
+    both

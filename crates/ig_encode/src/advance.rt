@@ -1,16 +1,19 @@
 //! Moving the path of a mark on to an offset.
 
-ghost use Rattle.std.specs.Prelude.{◌≡◌, ◌+◌, ◌≤◌, length, take, IfSome};
+ghost use Rattle.std.specs.Prelude.{◌≡◌, ◌+◌, ◌<◌, ◌≤◌, length, take, slice_get, slice_index_or, None, IfSome};
 ghost use Rattle.std.specs.List.{flat_map};
 ghost use Rattle.ig_value.specs.Canon.{Canon};
+ghost use Rattle.ig_encode.specs.Spans.{least_entries};
 ghost use Rattle.ig_encode.specs.Marks.{IsStep, IsPath, head_len, inner_values};
 
-use crate::footer::footer_len;
+use crate::footer::{entry_step, footer_len, last_offset};
 use crate::mark::Step;
 use crate::measure::Measure;
 use crate::measure_walk::measure_value;
+use crate::object::entry_len;
 use crate::resume::{child_at, head_of};
-use ig_value::Value;
+use crate::window_output::items_before;
+use ig_value::{Shape, Value};
 
 /// What moving a path found: how many steps the path has then, and how many bytes the value has, if
 /// it ends at or before the offset.
@@ -38,7 +41,7 @@ pub(crate) fn move_path(value: &Value, steps: &mut [Step], known: usize, offset:
     }
     let step = steps[0];
     let Some(child) = child_at(value, step.index) else {
-        return move_on(value, steps, step, offset);
+        return move_tail(value, steps, known, offset);
     };
     let below = move_path(child, &mut steps[1..], known - 1, offset - step.before);
     match below.end {
@@ -99,11 +102,73 @@ fn move_on(value: &Value, steps: &mut [Step], start: Step, offset: u64) -> Moved
                 end: None,
             }
         }
-        None => {
-            let end = end_after(value, step.before, offset);
-            Moved { depth: 1, end }
+        None => move_tail(value, steps, 1, offset),
+    }
+}
+
+/// Moves a path on past the last value inside: to the end of the value, or to an entry of the
+/// footer of an object.
+fn move_tail(value: &Value, steps: &mut [Step], known: usize, offset: u64) -> Moved
+    requires some { 0 < known }
+    requires known { known ≤ length steps.old }
+    requires path { IsPath value.now offset (take known steps.old) }
+    requires past { slice_get (inner_values value.now)
+        (slice_index_or steps.old 0 (record { index = 0; before = 0 })).index ≡ None }
+    ensures depth { result.depth ≤ length steps.old }
+    ensures path { IsPath value.now offset (take result.depth steps.new) }
+    ensures end { IfSome result.end (λ end. (end ≡ length (Canon value.now)) × (end ≤ offset)) }
+{
+    let before = steps[0].before;
+    let end = end_after(value, before, offset);
+    if end.is_some() {
+        return Moved { depth: 1, end };
+    }
+    let Value::Object(object) = value else {
+        return Moved {
+            depth: 1,
+            end: None,
+        };
+    };
+    if steps.len() < 2 {
+        return Moved {
+            depth: 1,
+            end: None,
+        };
+    }
+    let object = object.get();
+    let start = entry_step(&steps[1..known]);
+    let entry = last_entry(&object.shape, object.fields.as_slice(), before, start, offset);
+    steps[1] = entry;
+    Moved {
+        depth: 2,
+        end: None,
+    }
+}
+
+/// The last step to a field whose entry, in the footer of these fields, is at or before the offset.
+/// The fields end at `end`.
+fn last_entry(shape: &Shape, fields: &[Value], end: u64, start: Step, offset: u64) -> Step
+    requires end { end ≡ 24 + length (flat_map Canon fields.now) }
+    requires field { IsStep 24 fields.now offset start }
+    requires reached { end + length (least_entries shape.now fields.now start.index) ≤ offset }
+    ensures field { IsStep 24 fields.now offset result }
+    ensures reached { end + length (least_entries shape.now fields.now result.index) ≤ offset }
+{
+    let width = last_offset(fields, end).width;
+    let last = items_before(entry_len(shape, width), fields.len(), offset - end);
+    let mut step = start;
+    while step.index < last {
+        match end_of(&fields[step.index], step.before, offset) {
+            Some(next) => {
+                step = Step {
+                    index: step.index + 1,
+                    before: next,
+                };
+            }
+            None => return step,
         }
     }
+    step
 }
 
 /// The last step at or before the offset that goes to a value inside, or past the last of them.

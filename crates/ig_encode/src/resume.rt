@@ -4,10 +4,10 @@ ghost use Rattle.std.specs.Prelude.{◌≡◌, ◌+◌, ◌<◌, ◌≤◌, ◌^
 ghost use Rattle.std.specs.List.{flat_map};
 ghost use Rattle.ig_value.specs.Canon.{Canon};
 ghost use Rattle.ig_encode.specs.WindowOutput.{window_after};
-ghost use Rattle.ig_encode.specs.Marks.{IsPath, head_len, inner_values, paired_values, tail_bytes};
+ghost use Rattle.ig_encode.specs.Marks.{IsPath, IsTailPath, head_len, inner_values, paired_values, tail_bytes};
 
 use crate::fill_walk::{fill_pairs, fill_value, fill_values};
-use crate::footer::put_least_footer;
+use crate::footer::{entry_step, put_footer_from, put_least_footer};
 use crate::mark::Step;
 use crate::window::Window;
 use ig_value::Value;
@@ -87,7 +87,30 @@ pub(crate) fn fill_from(value: &Value, path: &[Step], out: &mut Window, into: &m
             fill_from(child, &path[1..], out, into);
             fill_after(value, step.index + 1, out, into);
         }
-        None => fill_after(value, step.index, out, into),
+        None => fill_tail(value, step.before, &path[1..], out, into),
+    }
+}
+
+/// Puts what stands after the values inside, which end at this offset, to a window that a path goes
+/// to from there.
+fn fill_tail(value: &Value, end: u64, path: &[Step], out: &mut Window, into: &mut [u8])
+    requires end { end ≡ head_len value.now
+        + length (flat_map Canon (inner_values value.now)) }
+    requires path { IsTailPath value.now end (end + out.old.skip) path.now }
+    ensures { (out.new, into.new) ≡ window_after out.old into.old (tail_bytes value.now) }
+{
+    match value {
+        Value::Objects { .. } => (),
+        Value::Collection { .. } => (),
+        Value::Enums { .. } => (),
+        Value::Map { .. } => (),
+        Value::Object(object) => {
+            let object = object.get();
+            let fields = object.fields.as_slice();
+            let entry = entry_step(path);
+            put_footer_from(&object.shape, fields, end, entry, out, into);
+        }
+        _ => fill_value(value, out, into),
     }
 }
 

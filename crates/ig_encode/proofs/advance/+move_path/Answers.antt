@@ -2,8 +2,18 @@ use Rattle.std.proofs.Common.{◌<◌, ◌+◌, ◌-◌, get_or, length, sym, ap
 use Rattle.std.proofs.lemmas.Bool.{eqb-false}
 use Rattle.ig_value.specs.Canon.{Canon}
 use Rattle.ig_encode.specs.Marks.{head_len, inner_values}
-use Rattle.ig_encode.proofs.MarkLemmas.{known_step, step_more, end_is, path_kept}
+use Rattle.ig_encode.proofs.MarkLemmas.{below_len, known_below, known_step, step_more, end_is, path_kept}
 use Rattle.ig_encode.proofs.advance.+move_path.Goals as goal
+
+pub move_path-below-requires : goal.move_path-below-requires
+move_path-below-requires t c =
+    let more = eqb-false (length c.args.steps.now) 0 (sym c.is_empty.ensures ∙ c.if-is_empty.false) in (
+      omega (arith, more, below_len c.args.steps.now),
+      (
+        omega (arith, c.requires.known, below_len c.args.steps.now),
+        known_below c.args.value.now c.args.offset c.args.steps.now c.args.known (record { index = 0; before = 0 }) c.in-Some.child.now c.if-known-eq0.false c.requires.known c.requires.path c.in-Some.ensures.child,
+      ),
+    )
 
 pub move_on-requires-in-Some-end : goal.move_on-requires-in-Some-end
 move_on-requires-in-Some-end t c =
