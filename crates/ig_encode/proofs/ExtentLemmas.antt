@@ -148,11 +148,20 @@ last_alone fields i x one item =
 pub low_of : (l : Length) (n : ℕ) → l ≡ count_after no_length n → n < 2 ^ 64 → l.low ≡ n
 low_of l n is lt = ap (λ (k : Length). k.low) is ∙ (let e : (count_after no_length n).low ≡ n = omega (arith, lt) in e)
 
+abbrev measure_of : Length → Option Digest → Measure
+measure_of l d = record { length = l; digest = d }
+
+same_measure : (l k : Length) (d e : Option Digest) → l ≡ k → d ≡ e → measure_of l d ≡ measure_of k e
+same_measure l k d e p q = rw (p, q) refl
+
+abbrev length_of : ℕ → ℕ → Length
+length_of low high = record { low = low; high = high }
+
 -- a measure that begins with bytes of this length
 pub counted_from : (m : Measure) (low : ℕ) (bytes : List ℕ) → m ≡ counting_start → low ≡ length bytes → low < 2 ^ 64 → record { length = record { low = low; high = m.length.high }; digest = m.digest } ≡ measure_after counting_start bytes
 counted_from m low bytes is size lt =
     let high : m.length.high ≡ 0 = ap (λ (n : Measure). n.length.high) is in
     let digest : m.digest ≡ None = ap (λ (n : Measure). n.digest) is in
-    let len : record { low = low; high = m.length.high } ≡ count_after no_length (length bytes) = same_length (record { low = low; high = m.length.high }) (count_after no_length (length bytes)) (omega (arith, size, lt)) (omega (arith, size, lt, high)) in
-    let both : record { length = record { low = low; high = m.length.high }; digest = m.digest } ≡ measure_after counting_start bytes = ap (λ (l : Length). record { length = l; digest = m.digest }) len ∙ ap (λ (d : Option Digest). record { length = count_after no_length (length bytes); digest = d }) digest in
-    both
+    let now = length_of low m.length.high in
+    let after = count_after no_length (length bytes) in
+    same_measure now after m.digest None (same_length now after (omega (arith, size, lt)) (omega (arith, size, lt, high))) digest

@@ -137,7 +137,13 @@ fn move_tail(value: &Value, steps: &mut [Step], known: usize, offset: u64) -> Mo
     }
     let object = object.get();
     let start = entry_step(&steps[1..known]);
-    let entry = last_entry(&object.shape, object.fields.as_slice(), before, start, offset);
+    let entry = last_entry(
+        &object.shape,
+        object.fields.as_slice(),
+        before,
+        start,
+        offset,
+    );
     steps[1] = entry;
     Moved {
         depth: 2,

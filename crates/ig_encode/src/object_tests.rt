@@ -257,9 +257,11 @@ fn is_encoded_in_pieces(alloc: Global, value: &Value) -> Result<bool, Fail> {
     let mut written = Octets::empty(alloc);
     encode(alloc, value, &mut written)?;
     let bytes = written.as_slice();
-    Ok(is_in_pieces(value, bytes, 1)
-        && is_in_pieces(value, bytes, 7)
-        && is_in_pieces(value, bytes, 100))
+    Ok(
+        is_in_pieces(value, bytes, 1)
+            && is_in_pieces(value, bytes, 7)
+            && is_in_pieces(value, bytes, 100),
+    )
 }
 
 fn numbers(alloc: Global, count: i32) -> Result<Vec<Value>, Fail> {
