@@ -45,7 +45,7 @@ done
 
 echo "value items encode, in pieces of 65536 by a mark, and encode as a part of that"
 rounds=$((rounds / 20 + 1))
-for row in "list 1000000" "objects 20000" "object 1000000" "deep 1048576"; do
+for row in "list 1000000" "inlist 1000000" "objects 20000" "object 1000000" "deep 1048576"; do
     set -- $row
     least "$1" "$2"
     echo "$1 $2 $(cat "$work/values.least")" | awk '{ printf "%s %d %d %d %.2f\n", $1, $2, $4, $5, $4 / $5 }'

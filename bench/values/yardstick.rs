@@ -697,6 +697,7 @@ fn named(name: &str, size: i32) -> Option<Value> {
         "text" => Value::Str("abé".repeat(size as usize / 4)),
         "list" => list(size),
         "nested" => nested(size),
+        "inlist" => Value::Collection { kind: 1, items: vec![list(size)] },
         "map" => map(size),
         "object" => object_of((0..size).map(small).collect()),
         "objects" => objects(size),

@@ -1,5 +1,5 @@
 -- How many bytes an object has, and an object that is written over a slice of its length.
-use Rattle.std.proofs.Common.{◌≡◌, ℕ, ◌+◌, ◌-◌, ◌*◌, ◌<◌, ◌≤◌, ℤ, pos, Option, Some, None, List, [], ◌∷◌, ◌++◌, length, map, take, drop, get_or, refl, sym, ap, ◌∙◌, arith, length-append, drop_of_length-le, SomeIff, IfSome}
+use Rattle.std.proofs.Common.{◌≡◌, ℕ, ◌+◌, ◌-◌, ◌*◌, ◌^◌, ◌<◌, ◌≤◌, ℤ, pos, Option, Some, None, List, [], ◌∷◌, ◌++◌, length, map, take, drop, get_or, refl, sym, ap, ◌∙◌, arith, length-append, drop_of_length-le, SomeIff, IfSome}
 use Rattle.std.specs.Int.{w32, byte_len}
 use Rattle.std.specs.List.{flat_map}
 use Rattle.std.proofs.lemmas.List.{append-nil, take_all, take-append-drop}
@@ -12,15 +12,16 @@ use Rattle.ig_value.specs.declared.value.Value.{Value}
 use Rattle.ig_value.specs.Canon.{Canon}
 use Rattle.ig_value.specs.Objects.{named_footer, last_of, object_bytes}
 use Rattle.ig_encode.specs.declared.length.Length.{Length}
+use Rattle.ig_encode.specs.declared.measure.Digest.{Digest}
 use Rattle.ig_encode.specs.declared.measure.Measure.{Measure}
 use Rattle.ig_encode.specs.declared.span.Extent.{Extent}
 use Rattle.ig_encode.specs.declared.span.OffsetWidth.{OffsetWidth}
 use Rattle.ig_encode.specs.declared.span.OffsetWidth.TheVariants.{One, Two, Four}
 use Rattle.ig_encode.specs.declared.window.Window.{Window}
-use Rattle.ig_encode.specs.MeasureOutput.{measure_after, count_after, no_length}
+use Rattle.ig_encode.specs.MeasureOutput.{measure_after, count_after, no_length, counting_start}
 use Rattle.ig_encode.specs.WindowOutput.{window_after}
 use Rattle.ig_encode.specs.Spans.{type_of, least_width, field_offsets, entry_size, canonical_header, extent_of, field_footer, least_footer}
-use Rattle.ig_encode.proofs.OutputLemmas.{length-flat_wide}
+use Rattle.ig_encode.proofs.OutputLemmas.{length-flat_wide, flat_map_more}
 use Rattle.ig_encode.proofs.SpanLemmas.{offsets_more, offsets_len, last_more, object_split, header_len, only_counted}
 
 -- ---- lengths
@@ -132,3 +133,35 @@ object_written bits type shape fields head room footer h r f = rw (h, r, f) (ap 
 
 pub from_start : (w : Window) → w.skip ≡ 0 → w.filled ≡ 0 → w ≡ fresh_window
 from_start w skip filled = ap (λ (n : ℕ). record { skip = n; filled = w.filled }) skip ∙ ap (λ (n : ℕ). record { skip = 0; filled = n }) filled
+
+-- the last field alone, and the fields before it
+pub last_alone : (fields : List Value) (i : ℕ) (x : Value) → i + 1 ≡ length fields → x ≡ get_or fields i x → (last_of (field_offsets fields) ≡ 24 + length (flat_map Canon (take i fields))) × (length (flat_map Canon fields) ≡ length (flat_map Canon (take i fields)) + length (Canon x))
+last_alone fields i x one item =
+    let all : take (i + 1) fields ≡ fields = take_all (i + 1) fields (omega (arith, one)) in
+    let lt : i < length fields = omega (arith, one) in
+    let bytes : flat_map Canon fields ≡ flat_map Canon (take i fields) ++ Canon x = ap (flat_map Canon) (sym all) ∙ flat_map_more Canon fields i x lt ∙ ap (λ (y : Value). flat_map Canon (take i fields) ++ Canon y) (sym item) in (
+      ap (λ (l : List Value). last_of (field_offsets l)) (sym all) ∙ last_next fields i x lt,
+      ap length bytes ∙ length-append (flat_map Canon (take i fields)) (Canon x),
+    )
+
+-- the low number of a length that is less than 2^64
+pub low_of : (l : Length) (n : ℕ) → l ≡ count_after no_length n → n < 2 ^ 64 → l.low ≡ n
+low_of l n is lt = ap (λ (k : Length). k.low) is ∙ (let e : (count_after no_length n).low ≡ n = omega (arith, lt) in e)
+
+abbrev measure_of : Length → Option Digest → Measure
+measure_of l d = record { length = l; digest = d }
+
+same_measure : (l k : Length) (d e : Option Digest) → l ≡ k → d ≡ e → measure_of l d ≡ measure_of k e
+same_measure l k d e p q = rw (p, q) refl
+
+abbrev length_of : ℕ → ℕ → Length
+length_of low high = record { low = low; high = high }
+
+-- a measure that begins with bytes of this length
+pub counted_from : (m : Measure) (low : ℕ) (bytes : List ℕ) → m ≡ counting_start → low ≡ length bytes → low < 2 ^ 64 → record { length = record { low = low; high = m.length.high }; digest = m.digest } ≡ measure_after counting_start bytes
+counted_from m low bytes is size lt =
+    let high : m.length.high ≡ 0 = ap (λ (n : Measure). n.length.high) is in
+    let digest : m.digest ≡ None = ap (λ (n : Measure). n.digest) is in
+    let now = length_of low m.length.high in
+    let after = count_after no_length (length bytes) in
+    same_measure now after m.digest None (same_length now after (omega (arith, size, lt)) (omega (arith, size, lt, high))) digest

@@ -1,12 +1,12 @@
 -- Paths of marks.
-use Rattle.std.proofs.Common.{◌≡◌, ℕ, ℤ, suc, zero, ◌+◌, ◌-◌, ◌≤◌, ◌<◌, List, [], ◌∷◌, ◌++◌, pos, length, map, take, drop, refl, sym, ap, subst, ◌∙◌, arith, append_assoc, length-append, drop_of_length-le, get_or, set, Bool, true, false, cond, eqb, ◌/◌, ◌%◌, Option, Some, None}
-use Rattle.std.specs.Prelude.{slice_get}
-use Rattle.std.specs.Int.{w8, w32}
+use Rattle.std.proofs.Common.{◌≡◌, ℕ, ℤ, suc, zero, ◌+◌, ◌-◌, ◌*◌, ◌≤◌, ◌<◌, List, [], ◌∷◌, ◌++◌, pos, length, map, take, drop, refl, sym, ap, subst, ◌∙◌, arith, append_assoc, length-append, length-take, length-take-le, drop_of_length-le, get_or, set, ◌/◌, ◌%◌, Option, Some, None, IfSome}
+use Rattle.std.specs.Prelude.{slice_get, MatchOption}
+use Rattle.std.specs.Int.{w8, w32, byte_len}
 use Rattle.std.specs.List.{flat_map}
 use Rattle.std.proofs.lemmas.List.{take-append-drop, append-nil, take_all, take-take, length-drop}
+use Rattle.std.proofs.Math.Nat.{mul-le-mul_right}
 use Rattle.std.proofs.lemmas.Slice.{take-put_mid}
 use borrow.Rule.Slice.PartMut.{put_mid}
-use Rattle.std.proofs.lemmas.Bool.{eqb-true}
 use Rattle.ig_encode.specs.declared.window.Window.{Window}
 use Rattle.ig_encode.specs.WindowOutput.{window_after, filled_longer, filled_before, beside}
 use Rattle.ig_encode.proofs.OutputLemmas.{two}
@@ -15,17 +15,22 @@ use Rattle.ig_base.specs.Numbers.{LE}
 use Rattle.ig_base.specs.Headers.{header_bytes}
 use Rattle.ig_value.specs.declared.value.Value.{Value, out-Value}
 use Rattle.ig_value.specs.declared.object.Record.{Record}
+use Rattle.ig_value.specs.declared.object.Shape.{Shape}
+use Rattle.ig_value.specs.Objects.{last_of}
+use Rattle.ig_encode.specs.declared.span.OffsetWidth.{OffsetWidth}
+use Rattle.ig_encode.specs.declared.span.OffsetWidth.TheVariants.{One, Two, Four}
 use Rattle.ig_value.specs.declared.value.Value.TheVariants as value
 use Rattle.ig_value.specs.declared.value.Value.TheOpen.{Value-F}
 use Rattle.ig_value.specs.Table.{parts}
 use Rattle.ig_value.specs.Canon.{layer_bytes, Canon}
-use Rattle.ig_value.specs.Limits.{children, IfThere}
+use Rattle.ig_value.specs.Limits.{children}
 use Rattle.ig_value.proofs.FoldLemmas.{Canon_out}
 use Rattle.ig_encode.specs.declared.mark.Step.{Step}
 use Rattle.ig_encode.specs.ListBytes.{pair_bytes}
-use Rattle.ig_encode.specs.Spans.{canonical_header, least_footer}
-use Rattle.ig_encode.specs.Marks.{head_size, head_len, inner_values, IsStep, IsPath, tail_with, tail_bytes, paired_values, first_of, kept_steps}
-use Rattle.ig_encode.proofs.SpanLemmas.{object_split, header_len}
+use Rattle.ig_encode.specs.Spans.{type_of, least_width, field_offsets, key_size, entry_size, canonical_header, field_footer, least_footer, least_entries}
+use Rattle.ig_encode.specs.Marks.{head_size, head_len, inner_values, IsStep, entries_in, IsEntryStep, IsTailPath, IsPath, first_entry, tail_with, tail_bytes, paired_values}
+use Rattle.ig_encode.proofs.SpanLemmas.{object_split, header_len, no_footer}
+use Rattle.ig_encode.proofs.ExtentLemmas.{footer_size}
 
 -- ---- the canonical form, cut between two values inside
 
@@ -91,16 +96,23 @@ cut_at v i le = cut_open (Canon v) (out-Value v) i (Canon_out v) le
 
 -- ---- paths
 
-later_if : (P Q : Value → Type 0) → ((child : Value) → P child → Q child) → (o : Option Value) → IfThere P o → IfThere Q o
-later_if P Q f None h = tt
-later_if P Q f (Some child) h = f child h
+later_match : (P Q : Value → Type 0) (A B : Type 0) → (A → B) → ((child : Value) → P child → Q child) → (o : Option Value) → MatchOption o A P → MatchOption o B Q
+later_match P Q A B f g None h = f h
+later_match P Q A B f g (Some child) h = g child h
+
+later_step : (head : ℕ) (inside : List Value) (m n : ℕ) (s : Step) → m ≤ n → IsStep head inside m s → IsStep head inside n s
+later_step head inside m n s le h = record { within = h.within; there = h.there; reached = omega (arith, h.reached, le) }
+
+later_tail : (v : Value) (end m n : ℕ) (steps : List Step) → m ≤ n → IsTailPath v end m steps → IsTailPath v end n steps
+later_tail v end m n [] le h = tt
+later_tail v end m n (s ∷ steps) le h = record { field = later_step (head_len v) (inner_values v) m n s le h.field; reached = omega (arith, h.reached, le) }
 
 -- a path goes towards each offset after
 pub path_later : (v : Value) (m n : ℕ) (steps : List Step) → m ≤ n → IsPath v m steps → IsPath v n steps
 path_later v m n [] le h = tt
 path_later v m n (s ∷ steps) le h = (
-  record { within = h.0.within; there = h.0.there; reached = omega (arith, h.0.reached, le) },
-  later_if (λ child. IsPath child (m - s.before) steps) (λ child. IsPath child (n - s.before) steps) (λ child is. path_later child (m - s.before) (n - s.before) steps (omega (arith, le)) is) (slice_get (inner_values v) s.index) h.1,
+  later_step (head_len v) (inner_values v) m n s le h.0,
+  later_match (λ child. IsPath child (m - s.before) steps) (λ child. IsPath child (n - s.before) steps) (IsTailPath v s.before m steps) (IsTailPath v s.before n steps) (later_tail v s.before m n steps le) (λ child is. path_later child (m - s.before) (n - s.before) steps (omega (arith, le)) is) (slice_get (inner_values v) s.index) h.1,
 )
 
 -- ---- the values inside, by the kind of value
@@ -218,6 +230,11 @@ get_lt [] (suc i) x e = absurd cc
 get_lt (y ∷ xs) zero x e = omega arith
 get_lt (y ∷ xs) (suc i) x e = omega (arith, get_lt xs i x e)
 
+get_none : {A : Type 0} (xs : List A) (i : ℕ) → slice_get xs i ≡ None → length xs ≤ i
+get_none [] i e = omega arith
+get_none (x ∷ xs) zero e = absurd cc
+get_none (x ∷ xs) (suc i) e = omega (arith, get_none xs i e)
+
 drop_get : {A : Type 0} (xs : List A) (i : ℕ) (x : A) → slice_get xs i ≡ Some x → drop i xs ≡ x ∷ drop (suc i) xs
 drop_get [] zero x e = absurd cc
 drop_get [] (suc i) x e = absurd cc
@@ -245,7 +262,7 @@ first_inside xs i x e = let lt = get_lt xs i x e in omega (arith, lt)
 
 -- the first step of a path
 pub path_head : (v : Value) (n : ℕ) (path : List Step) (d : Step) → 0 < length path → IsPath v n path →
-    IsStep (head_len v) (inner_values v) n (get_or path 0 d) × IfThere (λ child. IsPath child (n - (get_or path 0 d).before) (drop 1 path)) (slice_get (inner_values v) (get_or path 0 d).index)
+    IsStep (head_len v) (inner_values v) n (get_or path 0 d) × MatchOption (slice_get (inner_values v) (get_or path 0 d).index) (IsTailPath v (get_or path 0 d).before n (drop 1 path)) (λ child. IsPath child (n - (get_or path 0 d).before) (drop 1 path))
 path_head v n [] d some h = absurd (omega (arith, some))
 path_head v n (s ∷ path) d some h = h
 
@@ -270,85 +287,217 @@ resumed_some v s w into child t u h e first second =
     let is : flat_map Canon (drop s.index (inner_values v)) ++ tail_bytes v ≡ Canon child ++ rest = ap (λ (l : List Value). flat_map Canon l ++ tail_bytes v) (drop_get (inner_values v) s.index child e ∙ ap (λ (i : ℕ). child ∷ drop i (inner_values v)) (let one : suc s.index ≡ s.index + 1 = omega arith in one)) ∙ append_assoc (Canon child) back (tail_bytes v) in
     resumed v s w into (Canon child ++ rest) u h is (two window_after filled_longer (skipped_to s w) into (Canon child) rest t u first second)
 
-pub resumed_none : (v : Value) (s : Step) (w : Window) (into : List ℕ) (u : Window × List ℕ) → IsStep (head_len v) (inner_values v) w.skip s → u ≡ window_after (skipped_to s w) into (flat_map Canon (drop s.index (inner_values v)) ++ tail_bytes v) → u ≡ window_after w into (Canon v)
-resumed_none v s w into u h put = resumed v s w into (flat_map Canon (drop s.index (inner_values v)) ++ tail_bytes v) u h refl put
+pub resumed_tail : (v : Value) (s : Step) (w : Window) (into : List ℕ) (u : Window × List ℕ) → IsStep (head_len v) (inner_values v) w.skip s → slice_get (inner_values v) s.index ≡ None → u ≡ window_after (skipped_to s w) into (tail_bytes v) → u ≡ window_after w into (Canon v)
+resumed_tail v s w into u h e put =
+    let none : flat_map Canon (drop s.index (inner_values v)) ++ tail_bytes v ≡ tail_bytes v = ap (λ (l : List Value). flat_map Canon l ++ tail_bytes v) (drop_of_length-le (inner_values v) (get_none (inner_values v) s.index e)) in
+    resumed v s w into (tail_bytes v) u h none put
 
-nothing_below : (child : Value) (n m : ℕ) → IsPath child n (take m [])
-nothing_below child n zero = tt
-nothing_below child n (suc m) = tt
+-- such a tail's path, where the window was moved to the tail
+pub tail_here : (v : Value) (n : ℕ) (path : List Step) (d : Step) → 0 < length path → IsPath v n path → slice_get (inner_values v) (get_or path 0 d).index ≡ None → IsTailPath v (get_or path 0 d).before ((get_or path 0 d).before + (n - (get_or path 0 d).before)) (take (length path - 1) (drop 1 path))
+tail_here v n path d some h e =
+    let s = get_or path 0 d in
+    let head = path_head v n path d some h in
+    let tail : IsTailPath v s.before n (drop 1 path) = subst (λ (o : Option Value). MatchOption o (IsTailPath v s.before n (drop 1 path)) (λ c. IsPath c (n - s.before) (drop 1 path))) e head.1 in
+    let there : n ≡ s.before + (n - s.before) = omega (arith, head.0.reached) in
+    subst (IsTailPath v s.before (s.before + (n - s.before))) (sym (rest_all path 1)) (subst (λ (m : ℕ). IsTailPath v s.before m (drop 1 path)) there tail)
 
-below_none : (child : Value) (n : ℕ) (b : Bool) (steps : List Step) → IsPath child n (take (cond b 0 0) steps)
-below_none child n true steps = tt
-below_none child n false steps = tt
+-- the step to the first value inside, where it is at or before the offset
+pub first_is : (v : Value) (n : ℕ) (s : Step) → s.index ≡ 0 → s.before ≡ head_len v → s.before ≤ n → IsStep (head_len v) (inner_values v) n s
+first_is v n s index before le = record {
+  within = omega (arith, index);
+  there = let none : flat_map Canon (take s.index (inner_values v)) ≡ [] = ap (λ (i : ℕ). flat_map Canon (take i (inner_values v))) index in omega (arith, before, ap length none);
+  reached = le;
+}
 
-below_some : (v : Value) (n : ℕ) (s : Step) (steps : List Step) (k : ℕ) (t : Step) (child : Value) → IsPath v n (s ∷ take k steps) → IsStep (head_len v) (inner_values v) n t → slice_get (inner_values v) t.index ≡ Some child →
-    (b : Bool) → eqb t.index s.index ≡ b → IsPath child (n - t.before) (take (cond b (suc k - 1) 0) steps)
-below_some v n s steps k t child h is e false not = tt
-below_some v n s steps k t child h is e true same =
-    let index : t.index ≡ s.index = eqb-true t.index s.index same in
-    let before : s.before ≡ t.before = h.0.there ∙ ap (λ (i : ℕ). head_len v + length (flat_map Canon (take i (inner_values v)))) (sym index) ∙ sym is.there in
-    let at : slice_get (inner_values v) s.index ≡ Some child = ap (slice_get (inner_values v)) (sym index) ∙ e in
-    let path : IsPath child (n - s.before) (take k steps) = subst (IfThere (λ c. IsPath c (n - s.before) (take k steps))) at h.1 in
-    let there : IsPath child (n - t.before) (take k steps) = subst (λ (m : ℕ). IsPath child (n - m) (take k steps)) before path in
-    subst (λ (j : ℕ). IsPath child (n - t.before) (take j steps)) (let e : k ≡ suc k - 1 = omega arith in e) there
+-- where all values inside end, by the step past the last of them
+pub inside_end : (v : Value) (n : ℕ) (s : Step) → IsStep (head_len v) (inner_values v) n s → slice_get (inner_values v) s.index ≡ None → s.before ≡ head_len v + length (flat_map Canon (inner_values v))
+inside_end v n s h e =
+    h.there ∙ ap (λ (l : List Value). head_len v + length (flat_map Canon l)) (take_all s.index (inner_values v) (get_none (inner_values v) s.index e))
 
--- the same steps below, where the step stayed
-pub below_path : (v : Value) (n : ℕ) (steps : List Step) (known : ℕ) (t : Step) (child : Value) → IsPath v n (take known steps) → IsStep (head_len v) (inner_values v) n t → slice_get (inner_values v) t.index ≡ Some child →
-    IsPath child (n - t.before) (take (kept_steps known (first_of (head_len v) (take known steps)) t) (drop 1 steps))
-below_path v n steps zero t child h is e = below_none child (n - t.before) (eqb t.index 0) (drop 1 steps)
-below_path v n [] (suc k) t child h is e = nothing_below child (n - t.before) (kept_steps (suc k) (record { index = 0; before = head_len v }) t)
-below_path v n (s ∷ steps) (suc k) t child h is e = below_some v n s steps k t child h is e (eqb t.index s.index) refl
+-- the length of a value, by where its values inside end
+pub whole_length : (v : Value) (before : ℕ) → before ≡ head_len v + length (flat_map Canon (inner_values v)) → length (Canon v) ≡ before + length (tail_bytes v)
+whole_length v before is =
+    let n = length (inner_values v) in
+    let cut = cut_at v n (omega arith) in
+    let back : flat_map Canon (drop n (inner_values v)) ≡ [] = ap (flat_map Canon) (drop_of_length-le (inner_values v) (omega arith)) in
+    let front : flat_map Canon (take n (inner_values v)) ≡ flat_map Canon (inner_values v) = ap (flat_map Canon) (take_all n (inner_values v) (omega arith)) in
+    let rest : flat_map Canon (drop n (inner_values v)) ++ tail_bytes v ≡ tail_bytes v = ap (λ (l : List ℕ). l ++ tail_bytes v) back in
+    omega (arith, is, cut.size, ap length front, ap length rest, ap length cut.is, length-append cut.prefix (flat_map Canon (drop n (inner_values v)) ++ tail_bytes v))
+
+-- the length of a value without a tail
+pub tailless_length : (v : Value) (before : ℕ) → before ≡ head_len v + length (flat_map Canon (inner_values v)) → tail_bytes v ≡ [] → before ≡ length (Canon v)
+tailless_length v before is none = omega (arith, whole_length v before is, ap length none)
+
+-- the fields of an object end at this offset
+pub fields_end : (v : Value) (o : Record Value) (xs : List Value) (before : ℕ) → xs ≡ o.fields → v ≡ value.Object o → before ≡ head_len v + length (flat_map Canon (inner_values v)) → before ≡ 24 + length (flat_map Canon xs)
+fields_end v o xs before same is end =
+    end ∙ ap (λ (w : Value). head_len w + length (flat_map Canon (inner_values v))) is ∙ ap (λ (x : Value-F Value). head_size (parts x).0 + length (flat_map Canon (inner_values v))) (value.outs-Object o) ∙ ap (λ (l : List Value). 24 + length (flat_map Canon l)) ((inner_object v o is).0 ∙ sym same)
+
+-- the length of an object, by that of its footer
+pub object_length : (v : Value) (o : Record Value) (xs : List Value) (before footer : ℕ) → xs ≡ o.fields → v ≡ value.Object o → before ≡ head_len v + length (flat_map Canon (inner_values v)) → footer ≡ length (least_footer o.shape xs) → before + footer ≡ length (Canon v)
+object_length v o xs before footer same is end size =
+    let tail : length (tail_bytes v) ≡ footer = ap length ((inner_object v o is).1) ∙ ap (λ (l : List Value). length (least_footer o.shape l)) (sym same) ∙ sym size in
+    omega (arith, whole_length v before end, tail)
 
 -- ---- the slice of steps
 
-kept_le : (k : ℕ) (b : Bool) → cond b (k - 1) 0 ≤ k - 1
-kept_le k true = omega arith
-kept_le k false = omega arith
-
-set_len : (steps : List Step) (s : Step) → length (set steps 0 s) ≡ length steps
+pub set_len : (steps : List Step) (s : Step) → length (set steps 0 s) ≡ length steps
 set_len [] s = refl
 set_len (a ∷ steps) s = refl
-
-drop_set : (steps : List Step) (s : Step) → drop 1 (set steps 0 s) ≡ drop 1 steps
-drop_set [] s = refl
-drop_set (a ∷ steps) s = refl
 
 take_set : (steps : List Step) (s : Step) → 0 < length steps → take 1 (set steps 0 s) ≡ s ∷ []
 take_set [] s lt = absurd (omega (arith, lt))
 take_set (a ∷ steps) s lt = refl
 
-pub below_len : (steps : List Step) (s : Step) → length (take (length (set steps 0 s) - 1) (drop 1 (set steps 0 s))) ≡ length steps - 1
-below_len steps s = ap length (rest_all (set steps 0 s) 1) ∙ length-drop 1 (set steps 0 s) ∙ ap (λ (n : ℕ). n - 1) (set_len steps s)
+-- the steps below, where the first one is known
+pub below_len : (steps : List Step) → length (take (length steps - 1) (drop 1 steps)) ≡ length steps - 1
+below_len steps = ap length (rest_all steps 1) ∙ length-drop 1 steps
 
-pub below_within : (steps : List Step) (known kept : ℕ) (s t : Step) → known ≤ length steps → kept ≡ kept_steps known s t → kept ≤ length (take (length (set steps 0 t) - 1) (drop 1 (set steps 0 t)))
-below_within steps known kept s t le is = let few = kept_le known (eqb t.index s.index) in omega (arith, le, is, few, below_len steps t)
+pub known_step : (v : Value) (n : ℕ) (steps : List Step) (known : ℕ) (d : Step) → (known ≡ 0 → ⊥) → known ≤ length steps → IsPath v n (take known steps) → IsStep (head_len v) (inner_values v) n (get_or steps 0 d)
+known_step v n steps zero d some le h = absurd (some refl)
+known_step v n [] (suc k) d some le h = absurd (omega (arith, le))
+known_step v n (s ∷ steps) (suc k) d some le h = h.0
 
-pub below_there : (v : Value) (n : ℕ) (steps : List Step) (known kept : ℕ) (s t : Step) (child : Value) → IsPath v n (take known steps) → s ≡ first_of (head_len v) (take known steps) → IsStep (head_len v) (inner_values v) n t → slice_get (inner_values v) t.index ≡ Some child →
-    kept ≡ kept_steps known s t → IsPath child (n - t.before) (take kept (take (length (set steps 0 t) - 1) (drop 1 (set steps 0 t))))
-below_there v n steps known kept s t child path first is e below =
-    let list : take kept (take (length (set steps 0 t) - 1) (drop 1 (set steps 0 t))) ≡ take (kept_steps known (first_of (head_len v) (take known steps)) t) (drop 1 steps) =
-    ap (take kept) (rest_all (set steps 0 t) 1 ∙ drop_set steps t) ∙ ap (λ (k : ℕ). take k (drop 1 steps)) (below ∙ ap (λ (r : Step). kept_steps known r t) first) in
-    subst (IsPath child (n - t.before)) (sym list) (below_path v n steps known t child path is e)
+pub known_below : (v : Value) (n : ℕ) (steps : List Step) (known : ℕ) (d : Step) (child : Value) → (known ≡ 0 → ⊥) → known ≤ length steps → IsPath v n (take known steps) → slice_get (inner_values v) (get_or steps 0 d).index ≡ Some child →
+    IsPath child (n - (get_or steps 0 d).before) (take (known - 1) (take (length steps - 1) (drop 1 steps)))
+known_below v n steps zero d child some le h e = absurd (some refl)
+known_below v n [] (suc k) d child some le h e = absurd (omega (arith, le))
+known_below v n (s ∷ steps) (suc k) d child some le h e =
+    let path : IsPath child (n - s.before) (take k steps) = subst (λ (o : Option Value). MatchOption o (IsTailPath v s.before n (take k steps)) (λ c. IsPath c (n - s.before) (take k steps))) e h.1 in
+    let one : k ≡ suc k - 1 = omega arith in
+    let all : steps ≡ take (length (s ∷ steps) - 1) steps = sym (rest_all (s ∷ steps) 1) in
+    subst (λ (l : List Step). IsPath child (n - s.before) (take (suc k - 1) l)) all (subst (λ (j : ℕ). IsPath child (n - s.before) (take j steps)) one path)
 
-put_path : (steps : List Step) (s : Step) (ys : List Step) (k r : ℕ) → 0 < length steps → r ≤ length ys → take (1 + r) (put_mid 1 k (set steps 0 s) ys) ≡ s ∷ take r ys
-put_path steps s ys k r some le =
-    let whole = put_mid 1 k (set steps 0 s) ys in
-    let one : 1 ≤ length (set steps 0 s) = omega (arith, some, set_len steps s) in
-    let front : take (1 + length ys) whole ≡ s ∷ ys = take-put_mid 1 k (set steps 0 s) ys (1 + length ys) refl one ∙ ap (λ (l : List Step). l ++ ys) (take_set steps s some) in
+put_path : (steps : List Step) (s : Step) (ys : List Step) (k r : ℕ) → take 1 steps ≡ s ∷ [] → r ≤ length ys → take (1 + r) (put_mid 1 k steps ys) ≡ s ∷ take r ys
+put_path steps s ys k r first le =
+    let whole = put_mid 1 k steps ys in
+    let one : 1 ≤ length steps = omega (arith, ap length first, length-take 1 steps) in
+    let front : take (1 + length ys) whole ≡ s ∷ ys = take-put_mid 1 k steps ys (1 + length ys) refl one ∙ ap (λ (l : List Step). l ++ ys) first in
     let next : 1 + r ≡ suc r = omega arith in
     sym (take-take (1 + r) (1 + length ys) whole (omega (arith, le))) ∙ ap (take (1 + r)) front ∙ ap (λ (n : ℕ). take n (s ∷ ys)) next
 
 -- a path through a value inside
+through : (v : Value) (n : ℕ) (steps : List Step) (t : Step) (child : Value) (ys : List Step) (k r : ℕ) → take 1 steps ≡ t ∷ [] → r ≤ length ys → IsStep (head_len v) (inner_values v) n t → slice_get (inner_values v) t.index ≡ Some child → IsPath child (n - t.before) (take r ys) →
+    IsPath v n (take (1 + r) (put_mid 1 k steps ys))
+through v n steps t child ys k r first le is e path =
+    let below : MatchOption (slice_get (inner_values v) t.index) (IsTailPath v t.before n (take r ys)) (λ c. IsPath c (n - t.before) (take r ys)) = subst (λ (o : Option Value). MatchOption o (IsTailPath v t.before n (take r ys)) (λ c. IsPath c (n - t.before) (take r ys))) (sym e) path in
+    let all : IsPath v n (t ∷ take r ys) = (is, below) in
+    subst (IsPath v n) (sym (put_path steps t ys k r first le)) all
+
+take_first : (steps : List Step) (d : Step) → 0 < length steps → take 1 steps ≡ get_or steps 0 d ∷ []
+take_first [] d lt = absurd (omega (arith, lt))
+take_first (s ∷ steps) d lt = refl
+
+-- such a path by the first step as it was, and by another one that was set
+pub path_kept : (v : Value) (n : ℕ) (steps : List Step) (d : Step) (child : Value) (ys : List Step) (k r : ℕ) → 0 < length steps → r ≤ length ys → IsStep (head_len v) (inner_values v) n (get_or steps 0 d) → slice_get (inner_values v) (get_or steps 0 d).index ≡ Some child → IsPath child (n - (get_or steps 0 d).before) (take r ys) →
+    IsPath v n (take (1 + r) (put_mid 1 k steps ys))
+path_kept v n steps d child ys k r some le is e path = through v n steps (get_or steps 0 d) child ys k r (take_first steps d some) le is e path
+
 pub path_through : (v : Value) (n : ℕ) (steps : List Step) (t : Step) (child : Value) (ys : List Step) (k r : ℕ) → 0 < length steps → r ≤ length ys → IsStep (head_len v) (inner_values v) n t → slice_get (inner_values v) t.index ≡ Some child → IsPath child (n - t.before) (take r ys) →
     IsPath v n (take (1 + r) (put_mid 1 k (set steps 0 t) ys))
-path_through v n steps t child ys k r some le is e path =
-    let below : IfThere (λ c. IsPath c (n - t.before) (take r ys)) (slice_get (inner_values v) t.index) = subst (IfThere (λ c. IsPath c (n - t.before) (take r ys))) (sym e) path in
-    let all : IsPath v n (t ∷ take r ys) = (is, below) in
-    subst (IsPath v n) (sym (put_path steps t ys k r some le)) all
+path_through v n steps t child ys k r some le is e path = through v n (set steps 0 t) t child ys k r (take_set steps t some) le is e path
 
--- a path past the last value inside
+-- a path past the last value inside, and on to what stands there
+past : (v : Value) (n : ℕ) (t : Step) (below : List Step) → IsStep (head_len v) (inner_values v) n t → slice_get (inner_values v) t.index ≡ None → IsTailPath v t.before n below → IsPath v n (t ∷ below)
+past v n t below is e tail = (is, subst (λ (o : Option Value). MatchOption o (IsTailPath v t.before n below) (λ c. IsPath c (n - t.before) below)) (sym e) tail)
+
 pub path_past : (v : Value) (n : ℕ) (steps : List Step) (t : Step) → 0 < length steps → IsStep (head_len v) (inner_values v) n t → slice_get (inner_values v) t.index ≡ None → IsPath v n (take 1 (set steps 0 t))
-path_past v n steps t some is e =
-    let below : IfThere (λ c. IsPath c (n - t.before) []) (slice_get (inner_values v) t.index) = subst (IfThere (λ c. IsPath c (n - t.before) [])) (sym e) tt in
-    let all : IsPath v n (t ∷ []) = (is, below) in
-    subst (IsPath v n) (sym (take_set steps t some)) all
+path_past v n steps t some is e = subst (IsPath v n) (sym (take_set steps t some)) (past v n t [] is e tt)
+
+pub path_ended : (v : Value) (n : ℕ) (steps : List Step) (d : Step) → 0 < length steps → IsStep (head_len v) (inner_values v) n (get_or steps 0 d) → slice_get (inner_values v) (get_or steps 0 d).index ≡ None → IsPath v n (take 1 steps)
+path_ended v n steps d some is e = subst (IsPath v n) (sym (take_first steps d some)) (past v n (get_or steps 0 d) [] is e tt)
+
+take_two : (steps : List Step) (d t : Step) → 1 < length steps → take 2 (set steps 1 t) ≡ get_or steps 0 d ∷ t ∷ []
+take_two [] d t lt = absurd (omega (arith, lt))
+take_two (a ∷ []) d t lt = absurd (omega (arith, lt))
+take_two (a ∷ b ∷ steps) d t lt = refl
+
+pub path_to_entry : (v : Value) (n : ℕ) (steps : List Step) (d t : Step) → 1 < length steps → IsStep (head_len v) (inner_values v) n (get_or steps 0 d) → slice_get (inner_values v) (get_or steps 0 d).index ≡ None → IsEntryStep v (get_or steps 0 d).before n t → IsPath v n (take 2 (set steps 1 t))
+path_to_entry v n steps d t some is e entry = subst (IsPath v n) (sym (take_two steps d t some)) (past v n (get_or steps 0 d) (t ∷ []) is e entry)
+
+-- the step past the last value inside
+pub tail_step : (v : Value) (n : ℕ) (steps : List Step) (known : ℕ) (d : Step) → 0 < known → known ≤ length steps → IsPath v n (take known steps) → IsStep (head_len v) (inner_values v) n (get_or steps 0 d)
+tail_step v n steps zero d some le h = absurd (omega (arith, some))
+tail_step v n [] (suc k) d some le h = absurd (omega (arith, le))
+tail_step v n (s ∷ steps) (suc k) d some le h = h.0
+
+-- the steps after one past the last value inside
+pub known_tail : (v : Value) (n : ℕ) (steps : List Step) (known : ℕ) (d : Step) → 0 < known → known ≤ length steps → IsPath v n (take known steps) → slice_get (inner_values v) (get_or steps 0 d).index ≡ None →
+    IsTailPath v (get_or steps 0 d).before n (take (known - 1) (drop 1 steps))
+known_tail v n steps zero d some le h e = absurd (omega (arith, some))
+known_tail v n [] (suc k) d some le h e = absurd (omega (arith, le))
+known_tail v n (s ∷ steps) (suc k) d some le h e =
+    let tail : IsTailPath v s.before n (take k steps) = subst (λ (o : Option Value). MatchOption o (IsTailPath v s.before n (take k steps)) (λ c. IsPath c (n - s.before) (take k steps))) e h.1 in
+    let one : k ≡ suc k - 1 = omega arith in
+    subst (λ (j : ℕ). IsTailPath v s.before n (take j steps)) one tail
+
+-- the entry that such steps go to, or the first one
+pub first_entry_is : (v : Value) (o : Record Value) (end n : ℕ) (path : List Step) → v ≡ value.Object o → 24 ≤ end → end ≤ n → IsTailPath v end n path → IsEntryStep v end n (first_entry path)
+first_entry_is v o end n (s ∷ path) is some le h = h
+first_entry_is v o end n [] is some le h =
+    let head : head_len v ≡ 24 = ap head_len is ∙ ap (λ (x : Value-F Value). head_size (parts x).0) (value.outs-Object o) in
+    let none : entries_in 0 (out-Value v) ≡ [] = ap (λ (w : Value). entries_in 0 (out-Value w)) is ∙ ap (entries_in 0) (value.outs-Object o) ∙ no_footer (type_of (least_width (last_of (field_offsets o.fields)))) o.shape in
+    record { field = record { within = omega arith; there = omega (arith, head); reached = omega (arith, some, le) }; reached = omega (arith, ap length none, le) }
+
+-- what an object has inside, and the first entries of its footer
+object_inside : (v : Value) (o : Record Value) (xs : List Value) → xs ≡ o.fields → v ≡ value.Object o → (head_len v ≡ 24) × (inner_values v ≡ xs) × ((k : ℕ) → entries_in k (out-Value v) ≡ least_entries o.shape xs k)
+object_inside v o xs same is = (
+  ap head_len is ∙ ap (λ (x : Value-F Value). head_size (parts x).0) (value.outs-Object o),
+  (inner_object v o is).0 ∙ sym same,
+  λ k. ap (λ (w : Value). entries_in k (out-Value w)) is ∙ ap (entries_in k) (value.outs-Object o) ∙ ap (λ (l : List Value). least_entries o.shape l k) (sym same),
+)
+
+-- a step to an entry, said of the fields
+pub entry_fields : (v : Value) (o : Record Value) (xs : List Value) (end n : ℕ) (s : Step) → xs ≡ o.fields → v ≡ value.Object o → IsEntryStep v end n s → IsStep 24 xs n s × (end + length (least_entries o.shape xs s.index) ≤ n)
+entry_fields v o xs end n s same is h =
+    let inside = object_inside v o xs same is in (
+      subst (λ (l : List Value). IsStep 24 l n s) inside.1 (subst (λ (k : ℕ). IsStep k (inner_values v) n s) inside.0 h.field),
+      omega (arith, h.reached, ap length (inside.2 s.index)),
+    )
+
+pub fields_entry : (v : Value) (o : Record Value) (xs : List Value) (end n : ℕ) (s : Step) → xs ≡ o.fields → v ≡ value.Object o → IsStep 24 xs n s → end + length (least_entries o.shape xs s.index) ≤ n → IsEntryStep v end n s
+fields_entry v o xs end n s same is field reached =
+    let inside = object_inside v o xs same is in
+    record {
+      field = subst (λ (k : ℕ). IsStep k (inner_values v) n s) (sym inside.0) (subst (λ (l : List Value). IsStep 24 l n s) (sym inside.1) field);
+      reached = omega (arith, reached, ap length (inside.2 s.index));
+    }
+
+-- the length of the first entries
+pub entries_size : (shape : Shape) (fields : List Value) (k : ℕ) → k ≤ length fields → length (least_entries shape fields k) ≡ k * entry_size (least_width (last_of (field_offsets fields))) shape
+entries_size shape fields k le =
+    let w = least_width (last_of (field_offsets fields)) in
+    footer_size w shape (take k fields) ∙ ap (λ (n : ℕ). n * entry_size w shape) (length-take-le k fields le)
+
+key_some : (n : ℕ) (w : OffsetWidth) → 0 < n + byte_len (type_of w)
+key_some n One = omega arith
+key_some n Two = omega arith
+key_some n Four = omega arith
+
+pub entry_some : (w : OffsetWidth) (shape : Shape) → 0 < entry_size w shape
+entry_some w shape = key_some (key_size shape) w
+
+-- the footer that is put from an entry on, to a window that skips those before it
+pub footer_after : (w : Window) (into : List ℕ) (shape : Shape) (fields : List Value) (k passed : ℕ) (width : OffsetWidth) (u : Window × List ℕ) → width ≡ least_width (last_of (field_offsets fields)) → passed ≡ length (least_entries shape fields k) → passed ≤ w.skip →
+    ((start : Window) (from : List ℕ) → beside (w.skip - passed) w.filled into ≡ window_after start from (field_footer (type_of width) shape (take k fields)) → u ≡ window_after start from (field_footer (type_of width) shape fields)) → u ≡ window_after w into (least_footer shape fields)
+footer_after w into shape fields k passed width u is size le put =
+    let front : field_footer (type_of width) shape (take k fields) ≡ least_entries shape fields k = ap (λ (d : OffsetWidth). field_footer (type_of d) shape (take k fields)) is in
+    let skipped : beside (w.skip - passed) w.filled into ≡ window_after w into (field_footer (type_of width) shape (take k fields)) =
+    ap (λ (n : ℕ). beside (w.skip - n) w.filled into) size ∙ sym (filled_before w into (least_entries shape fields k) (omega (arith, size, le))) ∙ ap (window_after w into) (sym front) in
+    put w into skipped ∙ ap (λ (d : OffsetWidth). window_after w into (field_footer (type_of d) shape fields)) is
+
+-- one more entry before the offset
+pub entry_reached : (shape : Shape) (fields : List Value) (end offset i last entry : ℕ) → entry ≡ entry_size (least_width (last_of (field_offsets fields))) shape → end ≤ offset → i < last → last ≤ length fields → last * entry ≤ offset - end → end + length (least_entries shape fields (i + 1)) ≤ offset
+entry_reached shape fields end offset i last entry is le lt most fits =
+    let next : i + 1 ≤ last = omega (arith, lt) in
+    let size : length (least_entries shape fields (i + 1)) ≡ (i + 1) * entry = entries_size shape fields (i + 1) (omega (arith, next, most)) ∙ ap (λ (n : ℕ). (i + 1) * n) (sym is) in
+    let few : (i + 1) * entry ≤ last * entry = mul-le-mul_right entry next in
+    omega (arith, size, few, fits, le)
+
+-- a sum within a bound, said of another number
+pub sum_is : (found : Option ℕ) (a b bound : ℕ) → IfSome found (λ end. (end ≡ a) × (end ≤ bound)) → a ≡ b → IfSome found (λ end. (end ≡ b) × (end ≤ bound))
+sum_is None a b bound h e = tt
+sum_is (Some end) a b bound h e = (h.0 ∙ e, h.1)
+
+pub end_is : (found : Option ℕ) (end a bound : ℕ) → found ≡ Some end → IfSome found (λ end. (end ≡ a) × (end ≤ bound)) → (end ≡ a) × (end ≤ bound)
+end_is found end a bound is h = subst (λ (o : Option ℕ). IfSome o (λ end. (end ≡ a) × (end ≤ bound))) is h

@@ -1,5 +1,5 @@
 -- Marks: an offset in the canonical form of a value, and the path to it through the values inside.
-use Rattle.std.specs.Prelude.{◌≡◌, ℕ, ◌+◌, ◌-◌, ◌≤◌, List, [], ◌∷◌, length, take, slice_get, ◌==◌, if◌then◌else◌}
+use Rattle.std.specs.Prelude.{◌≡◌, ℕ, ◌+◌, ◌-◌, ◌≤◌, List, [], ◌∷◌, length, take, slice_get, MatchOption}
 use Rattle.std.specs.List.{flat_map}
 use Rattle.ig_value.specs.declared.code.Code.{Code}
 use Rattle.ig_value.specs.declared.code.Code.TheVariants as code
@@ -7,8 +7,8 @@ use Rattle.ig_value.specs.declared.value.Value.{Value, out-Value}
 use Rattle.ig_value.specs.declared.value.Value.TheOpen.{Value-F}
 use Rattle.ig_value.specs.Table.{parts}
 use Rattle.ig_value.specs.Canon.{Canon}
-use Rattle.ig_value.specs.Limits.{children, IfThere}
-use Rattle.ig_encode.specs.Spans.{least_footer}
+use Rattle.ig_value.specs.Limits.{children}
+use Rattle.ig_encode.specs.Spans.{least_footer, least_entries}
 use Rattle.ig_encode.specs.declared.mark.Step.{Step}
 use Rattle.ig_encode.specs.declared.mark.Mark.{Mark}
 
@@ -35,10 +35,26 @@ pub record IsStep (head : ℕ) (inside : List Value) (offset : ℕ) (step : Step
   pub there : step.before ≡ head + length (flat_map Canon (take step.index inside))
   pub reached : step.before ≤ offset
 
+-- the entries of the first fields in the footer of an object
+abbrev pub entries_in : ℕ → Value-F Value → List ℕ
+entries_in count (Value-F.Object o) = least_entries o.shape o.fields count
+entries_in count _ = []
+
+-- the step goes to a field of an object whose entry is at or before this offset; the fields end, and
+-- the footer begins, at `end`
+pub record IsEntryStep (v : Value) (end : ℕ) (offset : ℕ) (step : Step) : Type 0 where
+  pub field : IsStep (head_len v) (inner_values v) offset step
+  pub reached : end + length (entries_in step.index (out-Value v)) ≤ offset
+
+-- after a step past the last value inside there may be one more, to an entry of a footer
+abbrev pub IsTailPath : Value → ℕ → ℕ → List Step → Type 0
+IsTailPath v end offset [] = Unit {0}
+IsTailPath v end offset (step ∷ steps) = IsEntryStep v end offset step
+
 -- the steps go towards this offset of the canonical form, each from a value to one inside it
 abbrev pub IsPath : Value → ℕ → List Step → Type 0
 IsPath v offset [] = Unit {0}
-IsPath v offset (step ∷ steps) = IsStep (head_len v) (inner_values v) offset step × IfThere (λ child. IsPath child (offset - step.before) steps) (slice_get (inner_values v) step.index)
+IsPath v offset (step ∷ steps) = IsStep (head_len v) (inner_values v) offset step × MatchOption (slice_get (inner_values v) step.index) (IsTailPath v step.before offset steps) (λ child. IsPath child (offset - step.before) steps)
 
 -- the mark stands for its offset of the value's canonical form
 pub record IsMarkOf (v : Value) (mark : Mark) : Type 0 where
@@ -62,11 +78,7 @@ tail_with whole _ = whole
 abbrev pub tail_bytes : Value → List ℕ
 tail_bytes v = tail_with (Canon v) (out-Value v)
 
--- the first of these steps, or else one to the first value inside
-abbrev pub first_of : ℕ → List Step → Step
-first_of head [] = record { index = 0; before = head }
-first_of head (step ∷ steps) = step
-
--- how many of the steps below stay, where the first one was `start` and is `step` now
-abbrev pub kept_steps : ℕ → Step → Step → ℕ
-kept_steps known start step = if step.index == start.index then known - 1 else 0
+-- the first of these steps, or else one to the first field of an object
+abbrev pub first_entry : List Step → Step
+first_entry [] = record { index = 0; before = 24 }
+first_entry (step ∷ steps) = step

@@ -1,5 +1,5 @@
 -- The parts of an object's canonical form, and what a walk over its fields finds.
-use Rattle.std.specs.Prelude.{ℕ, ◌+◌, ◌%◌, ◌^◌, ℤ, pos, nat_lt, List, [], ◌∷◌, ◌++◌, length, map, if◌then◌else◌, get_or}
+use Rattle.std.specs.Prelude.{ℕ, ◌+◌, ◌%◌, ◌^◌, ℤ, pos, nat_lt, List, [], ◌∷◌, ◌++◌, length, map, take, if◌then◌else◌, get_or}
 use Rattle.std.specs.Int.{Width, w8, w16, w32, byte_len, cast_signed}
 use Rattle.std.specs.List.{flat_map}
 use Rattle.ig_base.specs.Numbers.{LE}
@@ -119,3 +119,7 @@ flag_of Four = 0
 -- the footer with the least width
 abbrev pub least_footer : Shape → List Value → List ℕ
 least_footer shape fields = field_footer (type_of (least_width (last_of (field_offsets fields)))) shape fields
+
+-- the entries of the first fields in that footer
+abbrev pub least_entries : Shape → List Value → ℕ → List ℕ
+least_entries shape fields count = field_footer (type_of (least_width (last_of (field_offsets fields)))) shape (take count fields)

@@ -7,12 +7,13 @@ ghost use Rattle.ig_base.specs.Hashes.{BytesHash};
 ghost use Rattle.ig_value.specs.Canon.{Canon, IsSendable};
 ghost use Rattle.ig_encode.specs.Marks.{IsMarkOf};
 
+use crate::advance::move_path;
 use crate::fill_walk::fill_value;
 use crate::mark::Mark;
 use crate::measure::Measure;
 use crate::measure_walk::{measure_value, measure_values};
 use crate::object::hash_of;
-use crate::resume::{fill_from, move_path};
+use crate::resume::fill_from;
 use crate::window::Window;
 use ig_base::{NoMemory, Octets};
 use ig_value::{Object, Value};
@@ -45,11 +46,14 @@ pub fn encode_part(value: &Value, from: u64, into: &mut [u8]) -> usize
 /// Fills the slice with the next bytes of the canonical form, from the mark on, and moves the mark
 /// past them. Answers how many bytes it filled, as [`encode_part`] does. Takes no memory.
 ///
-/// What stands before the mark isn't written again. A call walks what it writes; besides, it counts
-/// each value that the piece ends in, all of it, and the fields of each object of whose footer it
-/// writes a part. So a list of values that are short beside a piece takes time of the order of its
-/// length, however long it is; a long list inside another value, or an object whose footer spans
-/// pieces, is counted anew at every piece. The mark has to be one of this value.
+/// What stands before the mark isn't written again, and isn't counted again either: a call walks
+/// what it writes, counts the values from the mark to where the piece ends, and enters the one that
+/// the piece ends in. So a value of n bytes that is shown piece by piece takes time of the order of
+/// n for each level of values in one another, however it is built, but for three things. An array
+/// whose items may be null, as one of texts, is walked from its first item at each piece. A mark
+/// keeps 32 steps, so a value deeper than that, or a footer at that depth, is counted anew at each
+/// piece. A piece that ends in the footer of an object counts the last field of it. The mark has to
+/// be one of this value.
 pub fn encode_next(value: &Value, mark: &mut Mark, into: &mut [u8]) -> usize
     requires sendable { IsSendable value.now }
     requires mark { IsMarkOf value.now mark.old }
@@ -64,7 +68,8 @@ pub fn encode_next(value: &Value, mark: &mut Mark, into: &mut [u8]) -> usize
     fill_from(value, &mark.steps[..mark.depth], &mut window, into);
     let filled = window.filled;
     mark.offset += filled as u64;
-    mark.depth = move_path(value, &mut mark.steps[..], mark.depth, mark.offset);
+    let moved = move_path(value, &mut mark.steps[..], mark.depth, mark.offset);
+    mark.depth = moved.depth;
     filled
 }
 

@@ -15,6 +15,7 @@
 //! the bytes and any part of them.
 #![tactic(auto)]
 
+mod advance;
 mod calls;
 mod fill_walk;
 mod footer;

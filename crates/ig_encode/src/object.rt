@@ -48,6 +48,28 @@ fn width_after(fields: &Length) -> OffsetWidth
     OffsetWidth::Four
 }
 
+/// An offset, with its least width.
+pub(crate) fn offset_at(offset: u64) -> Offset
+    ensures { result ≡ offset_of offset }
+{
+    let low = (offset % 4_294_967_296) as u32;
+    let width = width_at(offset);
+    Offset { low, width }
+}
+
+/// The least width of an offset.
+fn width_at(offset: u64) -> OffsetWidth
+    ensures { result ≡ least_width offset }
+{
+    if offset < 256 {
+        OffsetWidth::One
+    } else if offset < 65_536 {
+        OffsetWidth::Two
+    } else {
+        OffsetWidth::Four
+    }
+}
+
 /// Puts the entry of a field: its identifier, if the shape names the fields, and its offset.
 pub(crate) fn put_entry<S: Output>(
     shape: &Shape,
@@ -168,7 +190,7 @@ fn signed(n: u64) -> i32
 }
 
 /// The bytes of an entry of a footer.
-fn entry_len(shape: &Shape, width: OffsetWidth) -> usize
+pub(crate) fn entry_len(shape: &Shape, width: OffsetWidth) -> usize
     ensures { result ≡ entry_size width shape.now }
 {
     let key = match shape {

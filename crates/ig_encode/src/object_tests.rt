@@ -225,3 +225,113 @@ fn marks_go_on_at_every_cut(rt: HostRuntime) -> Result<(), Fail> {
     assert!(rt; is_shown_at_every_cut(&listed(alloc)?, &LISTED));
     Ok(())
 }
+
+/// Whether the value is shown as these bytes in pieces of this size.
+fn is_in_pieces(value: &Value, bytes: &[u8], size: usize) -> bool
+    requires { size ≤ 100 }
+{
+    if canonical_len(value) > 10_000 {
+        return false;
+    }
+    let mut mark = Mark::start();
+    let mut piece = [0u8; 100];
+    let mut rest = bytes;
+    for _ in 0..10_001 {
+        let filled = encode_next(value, &mut mark, &mut piece[..size]);
+        match rest.strip_prefix(&piece[..filled]) {
+            Some(more) => rest = more,
+            None => return false,
+        }
+        if filled < size {
+            return rest.is_empty();
+        }
+    }
+    false
+}
+
+/// Whether the value is shown in pieces of each size as it is encoded.
+fn is_encoded_in_pieces(alloc: Global, value: &Value) -> Result<bool, Fail> {
+    if canonical_len(value) > 10_000 {
+        return Ok(false);
+    }
+    let mut written = Octets::empty(alloc);
+    encode(alloc, value, &mut written)?;
+    let bytes = written.as_slice();
+    Ok(
+        is_in_pieces(value, bytes, 1)
+            && is_in_pieces(value, bytes, 7)
+            && is_in_pieces(value, bytes, 100),
+    )
+}
+
+fn numbers(alloc: Global, count: i32) -> Result<Vec<Value>, Fail> {
+    let mut items = Vec::new(alloc);
+    for number in 0..count {
+        items.push(Value::Int(number))?;
+    }
+    Ok(items)
+}
+
+fn list(items: Vec<Value>) -> Value {
+    let items = Items::new(items);
+    Value::Collection { kind: 1, items }
+}
+
+/// A list of lists.
+fn lists(alloc: Global) -> Result<Value, Fail> {
+    let mut items = numbers(alloc, 3)?;
+    items.push(list(numbers(alloc, 30)?))?;
+    items.push(list(numbers(alloc, 0)?))?;
+    items.push(list(numbers(alloc, 40)?))?;
+    let mut outer = numbers(alloc, 2)?;
+    outer.push(list(items))?;
+    outer.push(Value::Null)?;
+    Ok(list(outer))
+}
+
+/// A map of lists.
+fn map_of_lists(alloc: Global) -> Result<Value, Fail> {
+    let first = (Value::Int(1), list(numbers(alloc, 25)?));
+    let second = (list(numbers(alloc, 7)?), list(numbers(alloc, 25)?));
+    let pairs = pair(alloc, first, second)?;
+    Ok(Value::Map { kind: 1, pairs })
+}
+
+/// An object of these fields, with a footer that names them or a compact one.
+fn object_of(alloc: Global, fields: Vec<Value>, named: bool) -> Result<Value, Fail> {
+    let mut ids = Vec::new(alloc);
+    for index in 0..fields.len() {
+        ids.push((index % 1000) as i32)?;
+    }
+    let shape = if named {
+        Shape::Named(Items::new(ids))
+    } else {
+        Shape::Compact(5)
+    };
+    let object = Record {
+        bits: 1,
+        type_id: 112,
+        shape,
+        fields: Items::new(fields),
+    };
+    value(alloc, object)
+}
+
+/// An object in an object, whose offsets are of two bytes and, inside, of one.
+fn wide(alloc: Global, named: bool) -> Result<Value, Fail> {
+    let mut fields = numbers(alloc, 20)?;
+    fields.push(object_of(alloc, numbers(alloc, 40)?, named)?)?;
+    fields.push(list(numbers(alloc, 10)?))?;
+    fields.push(object_of(alloc, numbers(alloc, 1)?, named)?)?;
+    object_of(alloc, fields, named)
+}
+
+#[test]
+fn pieces_are_those_of_the_whole(rt: HostRuntime) -> Result<(), Fail> {
+    let alloc = rt.alloc();
+    assert!(rt; is_encoded_in_pieces(alloc, &lists(alloc)?)?);
+    assert!(rt; is_encoded_in_pieces(alloc, &map_of_lists(alloc)?)?);
+    assert!(rt; is_encoded_in_pieces(alloc, &wide(alloc, true)?)?);
+    assert!(rt; is_encoded_in_pieces(alloc, &wide(alloc, false)?)?);
+    Ok(())
+}

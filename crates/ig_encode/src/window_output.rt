@@ -99,7 +99,7 @@ fn first_of(count: usize, skip: u64) -> usize
 
 /// How many of the next `count` items, of this width, to skip: those that lie before the offset as
 /// a whole.
-fn items_before(width: usize, count: usize, skip: u64) -> usize
+pub(crate) fn items_before(width: usize, count: usize, skip: u64) -> usize
     requires { 0 < width }
     ensures within { result ≤ count }
     ensures before { result * width ≤ skip }

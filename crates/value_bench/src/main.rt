@@ -57,6 +57,14 @@ fn nested(alloc: Global, size: i32) -> Result<Value> {
     Ok(Value::Collection { kind: 1, items })
 }
 
+/// A list as the one item of a list.
+fn inlist(alloc: Global, size: i32) -> Result<Value> {
+    let mut items = Vec::with_capacity(alloc, 1)?;
+    items.push(list(alloc, size)?)?;
+    let items = Items::new(items);
+    Ok(Value::Collection { kind: 1, items })
+}
+
 fn map(alloc: Global, size: i32) -> Result<Value> {
     let mut pairs = Vec::with_capacity(alloc, usize::try_from(size).unwrap_or(0))?;
     for i in 0..size {
@@ -128,6 +136,7 @@ fn named(alloc: Global, name: &str, size: i32) -> Result<Value> {
         "text" => text(alloc, size),
         "list" => list(alloc, size),
         "nested" => nested(alloc, size),
+        "inlist" => inlist(alloc, size),
         "map" => map(alloc, size),
         "object" => object(alloc, size),
         "objects" => objects(alloc, size),
@@ -241,8 +250,8 @@ fn main(rt: HostRuntime) -> Result<()> {
         return measure(&rt, rounds, name.as_str(), size);
     }
     for name in [
-        "bytes", "ints", "longs", "doubles", "text", "list", "nested", "map", "object", "objects",
-        "deep",
+        "bytes", "ints", "longs", "doubles", "text", "list", "nested", "inlist", "map", "object",
+        "objects", "deep",
     ] {
         measure(&rt, rounds, name, 1000)?;
     }

@@ -1,6 +1,6 @@
 use Rattle.std.proofs.Common.{◌<◌, get_or, length, sym, ◌∙◌, arith}
 use Rattle.std.proofs.lemmas.Bool.{eqb-false}
-use Rattle.ig_encode.proofs.MarkLemmas.{path_head, resumed_some, resumed_none}
+use Rattle.ig_encode.proofs.MarkLemmas.{path_head, inside_end, tail_here, resumed_some, resumed_tail}
 use Rattle.ig_encode.proofs.resume.+fill_from.Goals as goal
 
 pub returns-in-Some : goal.returns-in-Some
@@ -15,4 +15,4 @@ returns-in-None t c =
     let more = eqb-false (length c.args.path.now) 0 (sym c.is_empty.ensures ∙ c.if-is_empty.false) in
     let some : 0 < length c.args.path.now = omega (arith, more) in
     let head = path_head c.args.value.now c.args.out.now.skip c.args.path.now (record { index = 0; before = 0 }) some c.requires in
-    resumed_none c.args.value.now (get_or c.args.path.now 0 (record { index = 0; before = 0 })) c.args.out.now c.args.into.now (c.fill_after-in-None.new.out, c.fill_after-in-None.new.into) head.0 c.fill_after-in-None.ensures
+    resumed_tail c.args.value.now (get_or c.args.path.now 0 (record { index = 0; before = 0 })) c.args.out.now c.args.into.now (c.fill_tail.new.out, c.fill_tail.new.into) head.0 c.in-None.ensures.child c.fill_tail.ensures

@@ -1,6 +1,6 @@
 use Rattle.std.proofs.Common.{◌-◌, length}
 use Rattle.ig_encode.specs.Marks.{IsStep, head_len, inner_values}
-use Rattle.ig_encode.proofs.resume.last_step.Given as goal
+use Rattle.ig_encode.proofs.advance.last_step.Given as goal
 
 abbrev pub invariant-loop-child : goal.invariant-loop-child
 invariant-loop-child l = IsStep (head_len l.value) (inner_values l.value) l.offset l.step

@@ -1,6 +1,6 @@
 use Rattle.ig_encode.specs.Marks.{head_len, inner_values}
 use Rattle.ig_encode.proofs.MarkLemmas.{step_more}
-use Rattle.ig_encode.proofs.resume.last_step.Goals as goal
+use Rattle.ig_encode.proofs.advance.last_step.Goals as goal
 
 pub loop-child-preserved : goal.loop-child-preserved
 loop-child-preserved c =
