@@ -1,5 +1,5 @@
 -- What reading a request gives is the one right answer, and so is what reading a result gives.
-use Rattle.std.proofs.Common.{◌≡◌, ◌≢◌, ℕ, ◌+◌, ◌≤◌, List, length, drop, Option, None, Some, Result, Ok, Err, refl, sym, ap, ◌∙◌, arith, length-drop}
+use Rattle.std.proofs.Common.{◌≡◌, ◌≢◌, ℕ, ◌+◌, ◌≤◌, List, length, drop, Option, None, Some, Result, Ok, Err, refl, sym, ap, subst, ◌∙◌, arith, length-drop}
 use Rattle.ig_base.specs.Numbers.{AreBytes}
 use Rattle.ig_value.proofs.AgreesLemmas.{AreBytes-drop}
 use Rattle.ig_wire.specs.Fields.{frame_place}
@@ -13,6 +13,8 @@ use Rattle.ig_fields.specs.ReadingFields.{message_of}
 use Rattle.ig_fields.specs.Ask.{Ask, ResultForm}
 use Rattle.ig_fields.specs.AsksRightly.{AsksRightly, fields_after, served, asked_fields, asked}
 use Rattle.ig_fields.specs.ShowsRightly.{ShowsRightly, shown_fields, shown_by}
+use Rattle.ig_fields.specs.AskAnswers.{AnswersAs}
+use Rattle.ig_fields.specs.ShownAnswers.{ShowsAs}
 use Rattle.ig_fields.proofs.FormatLemmas.{message_read}
 
 -- the offset in the frame of what stands at an offset of the fields
@@ -74,3 +76,16 @@ module _ {A : Type 0} where
       let is : frame_place body h.0 ≡ unread.place = result_place body at h.0 further le h.1 ∙ sym there in
       rw h.2 (ap (λ (k : ℕ). Err (read_fault.Unread (record { place = k }))) is)
   one_right_result form body at (Err read_fault.NoMemory) le u n = absurd (n refl)
+
+  -- an answer that is that of reading, or out of memory, is right
+  pub answer_is_right : (row : Option (Ask A)) (body : List ℕ) (answer : Result A AskFault) → AreBytes body → 10 ≤ length body → AnswersAs (asked row body) answer → AsksRightly row body answer
+  answer_is_right row body (Ok x) bytes le e = subst (AsksRightly row body) e (asked_is_right row body bytes le)
+  answer_is_right row body (Err fault.NoMemory) bytes le e = tt
+  answer_is_right row body (Err fault.NotMine) bytes le e = subst (AsksRightly row body) e (asked_is_right row body bytes le)
+  answer_is_right row body (Err (fault.Unread place)) bytes le e = subst (AsksRightly row body) e (asked_is_right row body bytes le)
+  answer_is_right row body (Err (fault.Profile profile)) bytes le e = subst (AsksRightly row body) e (asked_is_right row body bytes le)
+
+  pub shown_answer_is_right : (form : ResultForm A) (body : List ℕ) (at : ℕ) (answer : Result A ReadFault) → AreBytes body → at ≤ length body → ShowsAs (shown_by form body at) answer → ShowsRightly form body at answer
+  shown_answer_is_right form body at (Ok x) bytes le e = subst (ShowsRightly form body at) e (shown_is_right form body at bytes le)
+  shown_answer_is_right form body at (Err read_fault.NoMemory) bytes le e = tt
+  shown_answer_is_right form body at (Err (read_fault.Unread unread)) bytes le e = subst (ShowsRightly form body at) e (shown_is_right form body at bytes le)

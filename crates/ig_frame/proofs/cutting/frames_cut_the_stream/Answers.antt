@@ -1,4 +1,4 @@
-use Rattle.std.proofs.Common.{◌≡◌, ℕ, sym, ap, ◌∙◌}
+use Rattle.std.proofs.Common.{ℕ, sym, ap, ◌∙◌}
 use Rattle.ig_base.specs.Frames.{least_after, front}
 use Rattle.ig_frame.proofs.StreamLemmas.{HandedOut-passed}
 use Rattle.ig_frame.proofs.cutting.frames_cut_the_stream.Goals as goal

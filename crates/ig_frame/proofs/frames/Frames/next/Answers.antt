@@ -1,4 +1,4 @@
-use Rattle.std.proofs.Common.{◌≡◌, ℤ, rules, refl, ap, sym, ◌∙◌, to_z, of_z, w32}
+use Rattle.std.proofs.Common.{◌≡◌, rules, refl, ap, sym, ◌∙◌, to_z, of_z, w32}
 use Rattle.ig_base.specs.Frames as frames
 use Rattle.ig_frame.proofs.StreamLemmas.{handed, stayed}
 use Rattle.ig_frame.proofs.frames.Frames.next.Goals as goal
