@@ -1,4 +1,4 @@
-use Rattle.std.proofs.Common.{◌+◌, sym, ap, ◌∙◌}
+use Rattle.std.proofs.Common.{sym, ap, ◌∙◌}
 use Rattle.ig_value.specs.declared.value.Value.TheVariants as value
 use Rattle.ig_encode.proofs.MarkLemmas.{inner_objects, inner_enums, inner_collection, inner_map, tailless_length, object_length, sum_is}
 use Rattle.ig_encode.proofs.advance.end_after.Goals as goal

@@ -1,7 +1,6 @@
 use Rattle.std.proofs.Common.{◌≡◌, ◌<◌, ◌≤◌, length, ap, ◌∙◌, arith}
 use Rattle.ig_value.specs.Objects.{last_of}
 use Rattle.ig_encode.specs.declared.span.Offset.{Offset}
-use Rattle.ig_encode.specs.declared.span.OffsetWidth.{OffsetWidth}
 use Rattle.ig_encode.specs.Spans.{least_width, field_offsets, entry_size}
 use Rattle.ig_encode.proofs.MarkLemmas.{get_within, step_more, entry_reached}
 use Rattle.ig_encode.proofs.advance.last_entry.Goals as goal

@@ -1,4 +1,4 @@
-use Rattle.std.proofs.Common.{◌≡◌, ◌-◌, ◌<◌, ◌≤◌, get_or, length, take, drop, sym, ap, subst, ◌∙◌, arith}
+use Rattle.std.proofs.Common.{◌-◌, ◌<◌, get_or, length, take, drop, sym, ap, subst, ◌∙◌, arith}
 use Rattle.ig_value.specs.declared.value.Value.TheVariants as value
 use Rattle.ig_encode.specs.declared.mark.Step.{Step}
 use Rattle.ig_encode.specs.Marks.{IsEntryStep}

@@ -1,4 +1,4 @@
-use Rattle.std.proofs.Common.{rules, List, ◌-◌, ◌^◌, ◌<◌, length, take, ap, ◌∙◌, arith}
+use Rattle.std.proofs.Common.{rules, List, ◌^◌, ◌<◌, length, take, ap, ◌∙◌, arith}
 use Rattle.std.specs.List.{flat_map}
 use Rattle.std.proofs.lemmas.List.{take_all}
 use Rattle.ig_value.specs.declared.value.Value.{Value}

@@ -1,4 +1,4 @@
-use Rattle.std.proofs.Common.{◌≡◌, ◌+◌, ◌-◌, ◌*◌, ◌≤◌, length, sym, ap, subst, ◌∙◌, arith}
+use Rattle.std.proofs.Common.{◌≡◌, ◌*◌, ◌≤◌, length, sym, ap, subst, ◌∙◌}
 use Rattle.ig_value.specs.Objects.{last_of}
 use Rattle.ig_encode.specs.declared.span.Offset.{Offset}
 use Rattle.ig_encode.specs.declared.span.OffsetWidth.{OffsetWidth}

@@ -1,6 +1,6 @@
 use Rattle.std.proofs.Common.{◌<◌, get_or, length, sym, ◌∙◌, arith}
 use Rattle.std.proofs.lemmas.Bool.{eqb-false}
-use Rattle.ig_encode.proofs.MarkLemmas.{path_head, inside_end, tail_here, resumed_some, resumed_tail}
+use Rattle.ig_encode.proofs.MarkLemmas.{path_head, resumed_some, resumed_tail}
 use Rattle.ig_encode.proofs.resume.+fill_from.Goals as goal
 
 pub returns-in-Some : goal.returns-in-Some
