@@ -5,3 +5,5 @@ pub mod LawLemmas
 pub mod PartitionLemmas
 pub mod NewestLemmas
 pub mod TableLemmas
+pub mod MessageLemmas
+pub mod ServedFitsLemmas

@@ -6,3 +6,6 @@ pub mod Routes
 pub mod Newest
 pub mod ServedMap
 pub mod Laws
+pub mod PartsMessages
+pub mod MessageViews
+pub mod MessageLaws
