@@ -27,7 +27,7 @@ least() {
 
 echo "value items decode yardstick ratio encode yardstick ratio (ns, the least of 5 runs of $rounds rounds)"
 for row in "bytes 1048576" "ints 262144" "longs 131072" "doubles 131072" "text 1048576" \
-    "list 1000" "nested 1000" "map 1000" "object 10" "objects 1000" "deep 1048576"; do
+    "texts 1000" "list 1000" "nested 1000" "map 1000" "object 10" "objects 1000" "deep 1048576"; do
     least $row
     echo "$row $(cat "$work/values.least") $(cat "$work/yardstick.least")" |
         awk '{ printf "%s %d %d %d %.2f %d %d %.2f\n", $1, $2, $3, $6, $6 / $3, $4, $7, $7 / $4 }'

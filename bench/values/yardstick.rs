@@ -695,6 +695,7 @@ fn named(name: &str, size: i32) -> Option<Value> {
         "longs" => Value::Longs((0..size).map(i64::from).collect()),
         "doubles" => Value::Doubles((0..size as u64).collect()),
         "text" => Value::Str("abé".repeat(size as usize / 4)),
+        "texts" => Value::Strs((0..size).map(|i| (i % 4 != 3).then(|| "a small text".to_owned())).collect()),
         "list" => list(size),
         "nested" => nested(size),
         "inlist" => Value::Collection { kind: 1, items: vec![list(size)] },

@@ -1,8 +1,9 @@
 -- Digests of bytes that are laid end to end.
-use Rattle.std.proofs.Common.{◌≡◌, ℕ, suc, ◌+◌, ◌*◌, ◌%◌, ◌^◌, ◌<◌, List, [], ◌∷◌, length, take, get_or, refl, sym, ap, ◌∙◌, arith, lit<}
+use Rattle.std.proofs.Common.{◌≡◌, ℕ, suc, ◌+◌, ◌*◌, ◌%◌, ◌^◌, ◌<◌, List, [], ◌∷◌, ◌++◌, length, take, drop, get_or, refl, sym, ap, ◌∙◌, arith, lit<}
 use Rattle.std.proofs.lemmas.Nat.{mul-mod_first, mul-mod_second}
 use Rattle.std.proofs.Math.Nat.{pow-suc, mod-add-mod}
 use Rattle.std.proofs.lemmas.Grind.{take_at_read}
+use Rattle.std.proofs.lemmas.List.{take-append-drop}
 use Rattle.std.proofs.lemmas.List.Sums.{fold-append}
 use Rattle.ig_base.specs.Hashes.{hash_after, hash_factor}
 use Rattle.ig_base.proofs.HashLemmas.{hash_after-scaled}
@@ -59,3 +60,13 @@ hash_from_one m bytes is =
     let hash : m.sum ≡ hash_after 0 bytes = ap (λ (e : Digest). e.sum) is ∙ sum_after no_digest bytes in
     let one : m.pow ≡ 1 * m.pow = omega arith in
     ap (λ n. (n + m.sum) % 2 ^ 32) one ∙ ap (λ n. (1 * n + m.sum) % 2 ^ 32) factor ∙ ap (λ n. (1 * hash_factor bytes + n) % 2 ^ 32) hash ∙ sym (hash_after-scaled 1 bytes (lit< tt))
+
+digest_both : (d : Digest) (p q : List ℕ) → digest_after d (p ++ q) ≡ digest_after (digest_after d p) q
+unfolding digest_after
+digest_both d p q = fold-append digest_step d p q
+
+-- the first bytes were hashed, and the others are
+pub hashed_on : (d e : Digest) (xs front back : List ℕ) (n : ℕ) → front ≡ take n xs → back ≡ drop n xs → e ≡ digest_after d front → digest_after e back ≡ digest_after d xs
+hashed_on d e xs front back n first others is =
+    let both : front ++ back ≡ xs = ap (λ (l : List ℕ). l ++ back) first ∙ ap (λ (l : List ℕ). take n xs ++ l) others ∙ take-append-drop n xs in
+    ap (λ (s : Digest). digest_after s back) is ∙ sym (digest_both d front back) ∙ ap (digest_after d) both

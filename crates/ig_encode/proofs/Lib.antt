@@ -5,3 +5,4 @@ pub mod SpanLemmas
 pub mod MeasureLemmas
 pub mod ExtentLemmas
 pub mod MarkLemmas
+pub mod LengthLemmas

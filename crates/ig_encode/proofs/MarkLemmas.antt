@@ -19,16 +19,22 @@ use Rattle.ig_value.specs.declared.object.Shape.{Shape}
 use Rattle.ig_value.specs.Objects.{last_of}
 use Rattle.ig_encode.specs.declared.span.OffsetWidth.{OffsetWidth}
 use Rattle.ig_encode.specs.declared.span.OffsetWidth.TheVariants.{One, Two, Four}
+use Rattle.ig_value.specs.declared.code.Code.TheVariants as code
 use Rattle.ig_value.specs.declared.value.Value.TheVariants as value
 use Rattle.ig_value.specs.declared.value.Value.TheOpen.{Value-F}
-use Rattle.ig_value.specs.Table.{parts}
-use Rattle.ig_value.specs.Canon.{layer_bytes, Canon}
+use Rattle.ig_value.specs.declared.code.Code.{Code}
+use Rattle.ig_value.specs.Part.{Part, nothing, object, counted, optional, array, Content}
+use Rattle.ig_value.specs.Table.{byte_of, content, parts, value_with}
+use Rattle.ig_value.specs.Canon.{part_bytes, layer_bytes, Canon}
 use Rattle.ig_value.specs.Limits.{children}
 use Rattle.ig_value.proofs.FoldLemmas.{Canon_out}
+use Rattle.ig_value.proofs.RowLemmas.{Row, built}
 use Rattle.ig_encode.specs.declared.mark.Step.{Step}
-use Rattle.ig_encode.specs.ListBytes.{pair_bytes}
+use Rattle.ig_encode.specs.declared.items.Reached.{Reached}
+use Rattle.ig_encode.specs.ListBytes.{array_bytes, pair_bytes}
 use Rattle.ig_encode.specs.Spans.{type_of, least_width, field_offsets, key_size, entry_size, canonical_header, field_footer, least_footer, least_entries}
-use Rattle.ig_encode.specs.Marks.{head_size, head_len, inner_values, IsStep, entries_in, IsEntryStep, IsTailPath, IsPath, first_entry, tail_with, tail_bytes, paired_values}
+use Rattle.ig_encode.specs.Marks.{head_size, head_len, inner_values, inner_end, IsStepTo, IsStep, IsStepIn, IsItemStep, entries_in, IsEntryStep, IsTailStep, IsTailPath, IsPath, first_of, tail_with, tail_bytes, paired_values}
+use Rattle.ig_encode.proofs.CanonLemmas.{Canon_row}
 use Rattle.ig_encode.proofs.SpanLemmas.{object_split, header_len, no_footer}
 use Rattle.ig_encode.proofs.ExtentLemmas.{footer_size}
 
@@ -40,8 +46,8 @@ pub record IsCutAt (whole : List ℕ) (head : ℕ) (inside : List Value) (tail :
   pub size : length prefix ≡ head + length (flat_map Canon (take i inside))
   pub is : whole ≡ prefix ++ (flat_map Canon (drop i inside) ++ tail)
 
-flat_cut : (xs : List Value) (i : ℕ) → flat_map Canon xs ≡ flat_map Canon (take i xs) ++ flat_map Canon (drop i xs)
-flat_cut xs i = ap (flat_map Canon) (sym (take-append-drop i xs)) ∙ flat_map-append Canon (take i xs) (drop i xs)
+flat_cut : {A : Type 0} (bytes : A → List ℕ) (xs : List A) (i : ℕ) → flat_map bytes xs ≡ flat_map bytes (take i xs) ++ flat_map bytes (drop i xs)
+flat_cut bytes xs i = ap (flat_map bytes) (sym (take-append-drop i xs)) ∙ flat_map-append bytes (take i xs) (drop i xs)
 
 -- values that stand after a head
 cut_list : (head : List ℕ) (n : ℕ) (xs : List Value) (tail : List ℕ) (whole : List ℕ) (i : ℕ) → length head ≡ n → whole ≡ head ++ (flat_map Canon xs ++ tail) → IsCutAt whole n xs tail i
@@ -51,7 +57,7 @@ cut_list head n xs tail whole i len is =
     record {
       prefix = head ++ front;
       size = length-append head front ∙ ap (λ (m : ℕ). m + length front) len;
-      is = is ∙ ap (λ (l : List ℕ). head ++ (l ++ tail)) (flat_cut xs i) ∙ ap (λ (l : List ℕ). head ++ l) (append_assoc front back tail) ∙ sym (append_assoc head front (back ++ tail));
+      is = is ∙ ap (λ (l : List ℕ). head ++ (l ++ tail)) (flat_cut Canon xs i) ∙ ap (λ (l : List ℕ). head ++ l) (append_assoc front back tail) ∙ sym (append_assoc head front (back ++ tail));
     }
 
 paired_flat : (ps : List (Value × Value)) → flat_map pair_bytes ps ≡ flat_map Canon (paired_values ps)
@@ -94,24 +100,40 @@ cut_open whole _ i is le = leaf_cut whole i le
 pub cut_at : (v : Value) (i : ℕ) → i ≤ length (inner_values v) → IsCutAt (Canon v) (head_len v) (inner_values v) (tail_bytes v) i
 cut_at v i le = cut_open (Canon v) (out-Value v) i (Canon_out v) le
 
+-- ---- the code and the content of a value
+
+row_at : (P : Row → Type 0) (v : Value) (c : Code) (x : Content Value (content c)) → v ≡ value_with c x → P (parts (out-Value v)) → P (c, x)
+row_at P v c x e h = subst P (ap (λ (w : Value). parts (out-Value w)) e ∙ built c x) h
+
+row_of : (P : Row → Type 0) (v : Value) (c : Code) (x : Content Value (content c)) → v ≡ value_with c x → P (c, x) → P (parts (out-Value v))
+row_of P v c x e h = subst P (sym (ap (λ (w : Value). parts (out-Value w)) e ∙ built c x)) h
+
 -- ---- paths
 
 later_match : (P Q : Value → Type 0) (A B : Type 0) → (A → B) → ((child : Value) → P child → Q child) → (o : Option Value) → MatchOption o A P → MatchOption o B Q
 later_match P Q A B f g None h = f h
 later_match P Q A B f g (Some child) h = g child h
 
-later_step : (head : ℕ) (inside : List Value) (m n : ℕ) (s : Step) → m ≤ n → IsStep head inside m s → IsStep head inside n s
-later_step head inside m n s le h = record { within = h.within; there = h.there; reached = omega (arith, h.reached, le) }
+later_step : {A : Type 0} (bytes : A → List ℕ) (head : ℕ) (items : List A) (m n : ℕ) (s : Step) → m ≤ n → IsStepTo bytes head items m s → IsStepTo bytes head items n s
+later_step bytes head items m n s le h = record { within = h.within; there = h.there; reached = omega (arith, h.reached, le) }
+
+later_in : (p : Part) (x : Content Value p) (m n : ℕ) (s : Step) → m ≤ n → IsStepIn p x m s → IsStepIn p x n s
+later_in (counted nothing (optional c p)) x m n s le h = later_step (part_bytes Canon (optional c p)) 5 x.1 m n s le h
+later_in _ x m n s le h = absurd h
+
+later_tail_step : (v : Value) (p : Part) (x : Content Value p) (end m n : ℕ) (s : Step) → m ≤ n → IsTailStep v p x end m s → IsTailStep v p x end n s
+later_tail_step v object x end m n s le h = record { field = later_step Canon (head_len v) (inner_values v) m n s le h.field; reached = omega (arith, h.reached, le) }
+later_tail_step v p x end m n s le h = later_in p x m n s le h
 
 later_tail : (v : Value) (end m n : ℕ) (steps : List Step) → m ≤ n → IsTailPath v end m steps → IsTailPath v end n steps
 later_tail v end m n [] le h = tt
-later_tail v end m n (s ∷ steps) le h = record { field = later_step (head_len v) (inner_values v) m n s le h.field; reached = omega (arith, h.reached, le) }
+later_tail v end m n (s ∷ steps) le h = later_tail_step v (content (parts (out-Value v)).0) (parts (out-Value v)).1 end m n s le h
 
 -- a path goes towards each offset after
 pub path_later : (v : Value) (m n : ℕ) (steps : List Step) → m ≤ n → IsPath v m steps → IsPath v n steps
 path_later v m n [] le h = tt
 path_later v m n (s ∷ steps) le h = (
-  later_step (head_len v) (inner_values v) m n s le h.0,
+  later_step Canon (head_len v) (inner_values v) m n s le h.0,
   later_match (λ child. IsPath child (m - s.before) steps) (λ child. IsPath child (n - s.before) steps) (IsTailPath v s.before m steps) (IsTailPath v s.before n steps) (later_tail v s.before m n steps le) (λ child is. path_later child (m - s.before) (n - s.before) steps (omega (arith, le)) is) (slice_get (inner_values v) s.index) h.1,
 )
 
@@ -249,13 +271,13 @@ take_get (y ∷ xs) (suc i) x e = ap (λ (l : List _). y ∷ l) (take_get xs i x
 
 -- ---- steps
 
--- the step after a value that ends at or before the offset
-pub step_more : (head : ℕ) (xs : List Value) (n : ℕ) (s : Step) (child : Value) (end : ℕ) → IsStep head xs n s → slice_get xs s.index ≡ Some child → end ≡ s.before + length (Canon child) → end ≤ n → IsStep head xs n (record { index = s.index + 1; before = end })
-step_more head xs n s child end h e is le =
-    let more : flat_map Canon (take (s.index + 1) xs) ≡ flat_map Canon (take s.index xs) ++ Canon child =
-    ap (λ (i : ℕ). flat_map Canon (take i xs)) (let one : s.index + 1 ≡ suc s.index = omega arith in one) ∙ ap (flat_map Canon) (take_get xs s.index child e) ∙ flat_map-append Canon (take s.index xs) (child ∷ []) ∙ ap (λ (l : List ℕ). flat_map Canon (take s.index xs) ++ l) (append-nil (Canon child)) in
-    let lt = get_lt xs s.index child e in
-    record { within = omega (arith, lt); there = omega (arith, is, h.there, ap length more, length-append (flat_map Canon (take s.index xs)) (Canon child)); reached = le }
+-- the step after an item that ends at or before the offset
+pub step_more : {A : Type 0} (bytes : A → List ℕ) (head : ℕ) (xs : List A) (n : ℕ) (s : Step) (x : A) (end : ℕ) → IsStepTo bytes head xs n s → slice_get xs s.index ≡ Some x → end ≡ s.before + length (bytes x) → end ≤ n → IsStepTo bytes head xs n (record { index = s.index + 1; before = end })
+step_more bytes head xs n s x end h e is le =
+    let more : flat_map bytes (take (s.index + 1) xs) ≡ flat_map bytes (take s.index xs) ++ bytes x =
+    ap (λ (i : ℕ). flat_map bytes (take i xs)) (let one : s.index + 1 ≡ suc s.index = omega arith in one) ∙ ap (flat_map bytes) (take_get xs s.index x e) ∙ flat_map-append bytes (take s.index xs) (x ∷ []) ∙ ap (λ (l : List ℕ). flat_map bytes (take s.index xs) ++ l) (append-nil (bytes x)) in
+    let lt = get_lt xs s.index x e in
+    record { within = omega (arith, lt); there = omega (arith, is, h.there, ap length more, length-append (flat_map bytes (take s.index xs)) (bytes x)); reached = le }
 
 pub first_inside : {A : Type 0} (xs : List A) (i : ℕ) (x : A) → slice_get xs i ≡ Some x → length xs - (i + 1) < length xs - i
 first_inside xs i x e = let lt = get_lt xs i x e in omega (arith, lt)
@@ -300,6 +322,11 @@ tail_here v n path d some h e =
     let tail : IsTailPath v s.before n (drop 1 path) = subst (λ (o : Option Value). MatchOption o (IsTailPath v s.before n (drop 1 path)) (λ c. IsPath c (n - s.before) (drop 1 path))) e head.1 in
     let there : n ≡ s.before + (n - s.before) = omega (arith, head.0.reached) in
     subst (IsTailPath v s.before (s.before + (n - s.before))) (sym (rest_all path 1)) (subst (λ (m : ℕ). IsTailPath v s.before m (drop 1 path)) there tail)
+
+-- the step after one past the last value inside
+pub tail_first : (v : Value) (end skip : ℕ) (path : List Step) (d : Step) → 1 ≤ length path → end ≡ inner_end v → IsTailPath v end (end + skip) path → IsTailPath v (inner_end v) (inner_end v + skip) (get_or path 0 d ∷ [])
+tail_first v end skip [] d some is h = absurd (omega (arith, some))
+tail_first v end skip (s ∷ path) d some is h = subst (λ (e : ℕ). IsTailPath v e (e + skip) (s ∷ [])) is h
 
 -- the step to the first value inside, where it is at or before the offset
 pub first_is : (v : Value) (n : ℕ) (s : Step) → s.index ≡ 0 → s.before ≡ head_len v → s.before ≤ n → IsStep (head_len v) (inner_values v) n s
@@ -412,8 +439,8 @@ take_two [] d t lt = absurd (omega (arith, lt))
 take_two (a ∷ []) d t lt = absurd (omega (arith, lt))
 take_two (a ∷ b ∷ steps) d t lt = refl
 
-pub path_to_entry : (v : Value) (n : ℕ) (steps : List Step) (d t : Step) → 1 < length steps → IsStep (head_len v) (inner_values v) n (get_or steps 0 d) → slice_get (inner_values v) (get_or steps 0 d).index ≡ None → IsEntryStep v (get_or steps 0 d).before n t → IsPath v n (take 2 (set steps 1 t))
-path_to_entry v n steps d t some is e entry = subst (IsPath v n) (sym (take_two steps d t some)) (past v n (get_or steps 0 d) (t ∷ []) is e entry)
+pub path_to_two : (v : Value) (n : ℕ) (steps : List Step) (d t : Step) → 1 < length steps → IsStep (head_len v) (inner_values v) n (get_or steps 0 d) → slice_get (inner_values v) (get_or steps 0 d).index ≡ None → IsTailStep v (content (parts (out-Value v)).0) (parts (out-Value v)).1 (get_or steps 0 d).before n t → IsPath v n (take 2 (set steps 1 t))
+path_to_two v n steps d t some is e entry = subst (IsPath v n) (sym (take_two steps d t some)) (past v n (get_or steps 0 d) (t ∷ []) is e entry)
 
 -- the step past the last value inside
 pub tail_step : (v : Value) (n : ℕ) (steps : List Step) (known : ℕ) (d : Step) → 0 < known → known ≤ length steps → IsPath v n (take known steps) → IsStep (head_len v) (inner_values v) n (get_or steps 0 d)
@@ -432,8 +459,8 @@ known_tail v n (s ∷ steps) (suc k) d some le h e =
     subst (λ (j : ℕ). IsTailPath v s.before n (take j steps)) one tail
 
 -- the entry that such steps go to, or the first one
-pub first_entry_is : (v : Value) (o : Record Value) (end n : ℕ) (path : List Step) → v ≡ value.Object o → 24 ≤ end → end ≤ n → IsTailPath v end n path → IsEntryStep v end n (first_entry path)
-first_entry_is v o end n (s ∷ path) is some le h = h
+pub first_entry_is : (v : Value) (o : Record Value) (end n : ℕ) (path : List Step) → v ≡ value.Object o → 24 ≤ end → end ≤ n → IsTailPath v end n path → IsEntryStep v end n (first_of 24 path)
+first_entry_is v o end n (s ∷ path) is some le h = row_at (λ r. IsTailStep v (content r.0) r.1 end n s) v code.Object o is h
 first_entry_is v o end n [] is some le h =
     let head : head_len v ≡ 24 = ap head_len is ∙ ap (λ (x : Value-F Value). head_size (parts x).0) (value.outs-Object o) in
     let none : entries_in 0 (out-Value v) ≡ [] = ap (λ (w : Value). entries_in 0 (out-Value w)) is ∙ ap (entries_in 0) (value.outs-Object o) ∙ no_footer (type_of (least_width (last_of (field_offsets o.fields)))) o.shape in
@@ -455,13 +482,83 @@ entry_fields v o xs end n s same is h =
       omega (arith, h.reached, ap length (inside.2 s.index)),
     )
 
-pub fields_entry : (v : Value) (o : Record Value) (xs : List Value) (end n : ℕ) (s : Step) → xs ≡ o.fields → v ≡ value.Object o → IsStep 24 xs n s → end + length (least_entries o.shape xs s.index) ≤ n → IsEntryStep v end n s
+pub fields_entry : (v : Value) (o : Record Value) (xs : List Value) (end n : ℕ) (s : Step) → xs ≡ o.fields → v ≡ value.Object o → IsStep 24 xs n s → end + length (least_entries o.shape xs s.index) ≤ n → IsTailStep v (content (parts (out-Value v)).0) (parts (out-Value v)).1 end n s
 fields_entry v o xs end n s same is field reached =
     let inside = object_inside v o xs same is in
-    record {
+    let entry : IsEntryStep v end n s = record {
       field = subst (λ (k : ℕ). IsStep k (inner_values v) n s) (sym inside.0) (subst (λ (l : List Value). IsStep 24 l n s) (sym inside.1) field);
       reached = omega (arith, reached, ap length (inside.2 s.index));
-    }
+    } in
+    row_of (λ r. IsTailStep v (content r.0) r.1 end n s) v code.Object o is entry
+
+-- ---- arrays whose items may be null
+
+-- a value with such items holds no value
+no_inside : (x : Value-F Value) (n : ℕ) (s : Step) → IsStepIn (content (parts x).0) (parts x).1 n s → (head_size (parts x).0 ≡ 0) × (children x ≡ [])
+no_inside (Value-F.Objects type xs) n s h = absurd h
+no_inside (Value-F.Collection kind xs) n s h = absurd h
+no_inside (Value-F.Map kind ps) n s h = absurd h
+no_inside (Value-F.Enums type xs) n s h = absurd h
+no_inside (Value-F.Object o) n s h = absurd h
+no_inside _ n s h = (refl, refl)
+
+pub tail_row : (v : Value) (c : Code) (x : Content Value (content c)) (end n : ℕ) (s : Step) → v ≡ value_with c x → IsTailPath v end n (s ∷ []) → IsTailStep v (content c) x end n s
+tail_row v c x end n s e h = row_at (λ r. IsTailStep v (content r.0) r.1 end n s) v c x e h
+
+pub items_here : (v : Value) (c : Code) (x : Content Value (content c)) (n : ℕ) (s : Step) → v ≡ value_with c x → IsStepIn (content c) x (inner_end v + n) s → IsStepIn (content c) x n s
+items_here v c x n s e h =
+    let none = no_inside (out-Value v) (inner_end v + n) s (row_of (λ r. IsStepIn (content r.0) r.1 (inner_end v + n) s) v c x e h) in
+    let empty : length (flat_map Canon (inner_values v)) ≡ 0 = ap (λ (l : List Value). length (flat_map Canon l)) none.1 in
+    let same : inner_end v + n ≡ n = omega (arith, none.0, empty) in
+    subst (λ (m : ℕ). IsStepIn (content c) x m s) same h
+
+pub item_tail : (v : Value) (p : Part) (x : Content Value p) (end n : ℕ) (s : Step) → IsStepIn p x n s → IsTailStep v p x end n s
+item_tail v object x end n s h = absurd h
+item_tail v p x end n s h = h
+
+-- a path to an item, by the content of the array
+abbrev pub IsContentPath : Value → (p : Part) → Content Value p → ℕ → ℕ → List Step → Type 0
+IsContentPath v p x end n [] = Unit {0}
+IsContentPath v p x end n (s ∷ steps) = IsTailStep v p x end n s
+
+pub path_row : (v : Value) (c : Code) (x : Content Value (content c)) (end n : ℕ) (path : List Step) → v ≡ value_with c x → IsTailPath v end n path → IsContentPath v (content c) x end n path
+path_row v c x end n [] e h = tt
+path_row v c x end n (s ∷ path) e h = row_at (λ r. IsTailStep v (content r.0) r.1 end n s) v c x e h
+
+pub items_start : (v : Value) (c : Code) (p : Part) (xs : List (Option (Content Value p))) (end n : ℕ) (path : List Step) → IsContentPath v (array (optional c p)) (tt, xs) end n path → (first_of 5 path).before ≤ n → IsStepTo (part_bytes Canon (optional c p)) 5 xs n (first_of 5 path)
+items_start v c p xs end n [] h le = record { within = omega arith; there = refl; reached = le }
+items_start v c p xs end n (s ∷ path) h le = h
+
+pub reached_step : (v : Value) (c : Code) (x : Content Value (content c)) (n : ℕ) (found : Option Reached) → v ≡ value_with c x → IfSome found (λ r. IsStepIn (content c) x n r.step) → IfSome found (λ r. IsItemStep v n r.step)
+reached_step v c x n found e h = row_of (λ row. IfSome found (λ r. IsStepIn (content row.0) row.1 n r.step)) v c x e h
+
+pub reached_end : (v : Value) (c : Code) (x : Content Value (content c)) (n : ℕ) (found : Option Reached) → v ≡ value_with c x → IfSome found (λ r. IfSome r.end (λ end. (end ≡ length (byte_of c ∷ part_bytes Canon (content c) x)) × (end ≤ n))) →
+    IfSome found (λ r. IfSome r.end (λ end. (end ≡ length (Canon v)) × (end ≤ n)))
+reached_end v c x n found e h = subst (λ (l : List ℕ). IfSome found (λ r. IfSome r.end (λ end. (end ≡ length l) × (end ≤ n)))) (sym (Canon_row v c x e)) h
+
+five : (byte n : ℕ) (rest : List ℕ) → length (byte ∷ (LE w32 (pos n) ++ rest)) ≡ 5 + length rest
+unfolding LE
+five byte n rest = let e : suc (suc (suc (suc (suc (length rest))))) ≡ 5 + length rest = omega arith in e
+
+-- where the items end, by the step past the last of them
+pub items_end : {A : Type 0} (bytes : A → List ℕ) (byte : ℕ) (xs : List A) (n : ℕ) (s : Step) → IsStepTo bytes 5 xs n s → length xs ≤ s.index → s.before ≡ length (byte ∷ array_bytes bytes xs)
+items_end bytes byte xs n s h past =
+    h.there ∙ ap (λ (l : List _). 5 + length (flat_map bytes l)) (take_all s.index xs past) ∙ sym (five byte (length xs) (flat_map bytes xs))
+
+-- the items from a step on, put to a window from which all before the step was skipped
+pub items_resumed : {A : Type 0} (bytes : A → List ℕ) (byte : ℕ) (xs : List A) (s : Step) (w : Window) (into : List ℕ) (u : Window × List ℕ) → IsStepTo bytes 5 xs w.skip s → u ≡ window_after (skipped_to s w) into (flat_map bytes (take (length xs - s.index) (drop s.index xs))) →
+    u ≡ window_after w into (byte ∷ array_bytes bytes xs)
+items_resumed bytes byte xs s w into u h put =
+    let count = LE w32 (pos (length xs)) in
+    let front = flat_map bytes (take s.index xs) in
+    let back = flat_map bytes (drop s.index xs) in
+    let prefix : List ℕ = byte ∷ (count ++ front) in
+    let size : length prefix ≡ s.before = five byte (length xs) front ∙ sym h.there in
+    let le : length prefix ≤ w.skip = omega (arith, size, h.reached) in
+    let passed : (skipped_to s w, into) ≡ window_after w into prefix = ap (λ (n : ℕ). beside (w.skip - n) w.filled into) (sym size) ∙ sym (filled_before w into prefix le) in
+    let whole : prefix ++ back ≡ byte ∷ array_bytes bytes xs = ap (λ (l : List ℕ). byte ∷ l) (append_assoc count front back ∙ ap (λ (l : List ℕ). count ++ l) (sym (flat_cut bytes xs s.index))) in
+    let rest : u ≡ window_after (skipped_to s w) into back = put ∙ ap (λ (l : List _). window_after (skipped_to s w) into (flat_map bytes l)) (rest_all xs s.index) in
+    two window_after filled_longer w into prefix back (skipped_to s w, into) u passed rest ∙ ap (window_after w into) whole
 
 -- the length of the first entries
 pub entries_size : (shape : Shape) (fields : List Value) (k : ℕ) → k ≤ length fields → length (least_entries shape fields k) ≡ k * entry_size (least_width (last_of (field_offsets fields))) shape

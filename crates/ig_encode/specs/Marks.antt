@@ -5,8 +5,9 @@ use Rattle.ig_value.specs.declared.code.Code.{Code}
 use Rattle.ig_value.specs.declared.code.Code.TheVariants as code
 use Rattle.ig_value.specs.declared.value.Value.{Value, out-Value}
 use Rattle.ig_value.specs.declared.value.Value.TheOpen.{Value-F}
-use Rattle.ig_value.specs.Table.{parts}
-use Rattle.ig_value.specs.Canon.{Canon}
+use Rattle.ig_value.specs.Part.{Part, nothing, object, counted, optional, Content}
+use Rattle.ig_value.specs.Table.{content, parts}
+use Rattle.ig_value.specs.Canon.{part_bytes, Canon}
 use Rattle.ig_value.specs.Limits.{children}
 use Rattle.ig_encode.specs.Spans.{least_footer, least_entries}
 use Rattle.ig_encode.specs.declared.mark.Step.{Step}
@@ -28,12 +29,20 @@ head_size _ = 0
 abbrev pub head_len : Value → ℕ
 head_len v = head_size (parts (out-Value v)).0
 
--- the step goes to one of these values, or past the last of them, at or before this offset; the head
+-- the step goes to one of these items, or past the last of them, at or before this offset; the head
 -- is what stands before the first
-pub record IsStep (head : ℕ) (inside : List Value) (offset : ℕ) (step : Step) : Type 0 where
-  pub within : step.index ≤ length inside
-  pub there : step.before ≡ head + length (flat_map Canon (take step.index inside))
+pub record IsStepTo {A : Type 0} (bytes : A → List ℕ) (head : ℕ) (items : List A) (offset : ℕ) (step : Step) : Type 0 where
+  pub within : step.index ≤ length items
+  pub there : step.before ≡ head + length (flat_map bytes (take step.index items))
   pub reached : step.before ≤ offset
+
+-- the same for values
+abbrev pub IsStep : ℕ → List Value → ℕ → Step → Type 0
+IsStep head inside offset step = IsStepTo Canon head inside offset step
+
+-- where the values inside a value end
+abbrev pub inner_end : Value → ℕ
+inner_end v = head_len v + length (flat_map Canon (inner_values v))
 
 -- the entries of the first fields in the footer of an object
 abbrev pub entries_in : ℕ → Value-F Value → List ℕ
@@ -46,10 +55,25 @@ pub record IsEntryStep (v : Value) (end : ℕ) (offset : ℕ) (step : Step) : Ty
   pub field : IsStep (head_len v) (inner_values v) offset step
   pub reached : end + length (entries_in step.index (out-Value v)) ≤ offset
 
--- after a step past the last value inside there may be one more, to an entry of a footer
+-- the step goes to an item of an array whose items may be null; a code and a count stand before the
+-- first
+abbrev pub IsStepIn : (p : Part) → Content Value p → ℕ → Step → Type 0
+IsStepIn (counted nothing (optional c p)) x offset step = IsStepTo (part_bytes Canon (optional c p)) 5 x.1 offset step
+IsStepIn _ x offset step = ⊥
+
+-- the same by the value
+abbrev pub IsItemStep : Value → ℕ → Step → Type 0
+IsItemStep v offset step = IsStepIn (content (parts (out-Value v)).0) (parts (out-Value v)).1 offset step
+
+-- the step goes to an entry of the footer of an object, or to an item of such an array
+abbrev pub IsTailStep : Value → (p : Part) → Content Value p → ℕ → ℕ → Step → Type 0
+IsTailStep v object x end offset step = IsEntryStep v end offset step
+IsTailStep v p x end offset step = IsStepIn p x offset step
+
+-- after a step past the last value inside there may be one more
 abbrev pub IsTailPath : Value → ℕ → ℕ → List Step → Type 0
 IsTailPath v end offset [] = Unit {0}
-IsTailPath v end offset (step ∷ steps) = IsEntryStep v end offset step
+IsTailPath v end offset (step ∷ steps) = IsTailStep v (content (parts (out-Value v)).0) (parts (out-Value v)).1 end offset step
 
 -- the steps go towards this offset of the canonical form, each from a value to one inside it
 abbrev pub IsPath : Value → ℕ → List Step → Type 0
@@ -78,7 +102,7 @@ tail_with whole _ = whole
 abbrev pub tail_bytes : Value → List ℕ
 tail_bytes v = tail_with (Canon v) (out-Value v)
 
--- the first of these steps, or else one to the first field of an object
-abbrev pub first_entry : List Step → Step
-first_entry [] = record { index = 0; before = 24 }
-first_entry (step ∷ steps) = step
+-- the first of these steps, or else one to the first of what stands from this offset on
+abbrev pub first_of : ℕ → List Step → Step
+first_of before [] = record { index = 0; before = before }
+first_of before (step ∷ steps) = step

@@ -4,14 +4,15 @@ ghost use Rattle.std.specs.Prelude.{◌≡◌, ◌+◌, ◌<◌, ◌≤◌, leng
 ghost use Rattle.std.specs.List.{flat_map};
 ghost use Rattle.ig_value.specs.Canon.{Canon};
 ghost use Rattle.ig_encode.specs.Spans.{least_entries};
-ghost use Rattle.ig_encode.specs.Marks.{IsStep, IsPath, head_len, inner_values};
+ghost use Rattle.ig_encode.specs.Marks.{IsStep, IsItemStep, IsPath, head_len, inner_values, inner_end};
 
-use crate::footer::{entry_step, footer_len, last_offset};
+use crate::footer::{footer_len, last_offset};
+use crate::items::{Reached, reach_item};
 use crate::mark::Step;
 use crate::measure::Measure;
 use crate::measure_walk::measure_value;
-use crate::object::entry_len;
-use crate::resume::{child_at, head_of};
+use crate::object::{HEADER_LEN, entry_len};
+use crate::resume::{child_at, head_of, next_step};
 use crate::window_output::items_before;
 use ig_value::{Shape, Value};
 
@@ -106,8 +107,8 @@ fn move_on(value: &Value, steps: &mut [Step], start: Step, offset: u64) -> Moved
     }
 }
 
-/// Moves a path on past the last value inside: to the end of the value, or to an entry of the
-/// footer of an object.
+/// Moves a path on past the last value inside: to the end of the value, to an entry of the footer
+/// of an object, or to an item of an array whose items may be null.
 fn move_tail(value: &Value, steps: &mut [Step], known: usize, offset: u64) -> Moved
     requires some { 0 < known }
     requires known { known ≤ length steps.old }
@@ -118,6 +119,9 @@ fn move_tail(value: &Value, steps: &mut [Step], known: usize, offset: u64) -> Mo
     ensures path { IsPath value.now offset (take result.depth steps.new) }
     ensures end { IfSome result.end (λ end. (end ≡ length (Canon value.now)) × (end ≤ offset)) }
 {
+    if let Some(reached) = reach_item(value, &steps[1..known], offset) {
+        return move_to_item(value, steps, reached, offset);
+    }
     let before = steps[0].before;
     let end = end_after(value, before, offset);
     if end.is_some() {
@@ -136,7 +140,7 @@ fn move_tail(value: &Value, steps: &mut [Step], known: usize, offset: u64) -> Mo
         };
     }
     let object = object.get();
-    let start = entry_step(&steps[1..known]);
+    let start = next_step(&steps[1..known], HEADER_LEN as u64);
     let entry = last_entry(
         &object.shape,
         object.fields.as_slice(),
@@ -149,6 +153,27 @@ fn move_tail(value: &Value, steps: &mut [Step], known: usize, offset: u64) -> Mo
         depth: 2,
         end: None,
     }
+}
+
+/// Moves such a path to the item that was reached, if there is a step for it.
+fn move_to_item(value: &Value, steps: &mut [Step], reached: Reached, offset: u64) -> Moved
+    requires step { IsStep (head_len value.now) (inner_values value.now) offset
+        (slice_index_or steps.old 0 (record { index = 0; before = 0 })) }
+    requires past { slice_get (inner_values value.now)
+        (slice_index_or steps.old 0 (record { index = 0; before = 0 })).index ≡ None }
+    requires some { 0 < length steps.old }
+    requires item { IsItemStep value.now offset reached.step }
+    requires end { IfSome reached.end (λ end. (end ≡ length (Canon value.now)) × (end ≤ offset)) }
+    ensures depth { result.depth ≤ length steps.old }
+    ensures path { IsPath value.now offset (take result.depth steps.new) }
+    ensures end { IfSome result.end (λ end. (end ≡ length (Canon value.now)) × (end ≤ offset)) }
+{
+    let end = reached.end;
+    if steps.len() < 2 {
+        return Moved { depth: 1, end };
+    }
+    steps[1] = reached.step;
+    Moved { depth: 2, end }
 }
 
 /// The last step to a field whose entry, in the footer of these fields, is at or before the offset.
@@ -212,8 +237,7 @@ fn end_of(value: &Value, before: u64, bound: u64) -> Option<u64>
 
 /// The length of a value whose values inside end at this offset, if it isn't past the bound.
 fn end_after(value: &Value, before: u64, bound: u64) -> Option<u64>
-    requires before { before ≡ head_len value.now
-        + length (flat_map Canon (inner_values value.now)) }
+    requires before { before ≡ inner_end value.now }
     requires reached { before ≤ bound }
     ensures { IfSome result (λ end. (end ≡ length (Canon value.now)) × (end ≤ bound)) }
 {
@@ -232,7 +256,7 @@ fn end_after(value: &Value, before: u64, bound: u64) -> Option<u64>
 }
 
 /// The sum, if it isn't past the bound.
-fn sum_within(before: u64, more: u64, bound: u64) -> Option<u64>
+pub(crate) fn sum_within(before: u64, more: u64, bound: u64) -> Option<u64>
     requires { before ≤ bound }
     ensures { IfSome result (λ end. (end ≡ before + more) × (end ≤ bound)) }
 {

@@ -49,11 +49,10 @@ pub fn encode_part(value: &Value, from: u64, into: &mut [u8]) -> usize
 /// What stands before the mark isn't written again, and isn't counted again either: a call walks
 /// what it writes, counts the values from the mark to where the piece ends, and enters the one that
 /// the piece ends in. So a value of n bytes that is shown piece by piece takes time of the order of
-/// n for each level of values in one another, however it is built, but for three things. An array
-/// whose items may be null, as one of texts, is walked from its first item at each piece. A mark
-/// keeps 32 steps, so a value deeper than that, or a footer at that depth, is counted anew at each
-/// piece. A piece that ends in the footer of an object counts the last field of it. The mark has to
-/// be one of this value.
+/// n for each level of values in one another, however it is built, but for two things. A mark keeps
+/// 32 steps, so a value deeper than that, or at that depth a footer or an array whose items may be
+/// null, is walked anew at each piece. A piece that ends in the footer of an object counts the last
+/// field of it. The mark has to be one of this value.
 pub fn encode_next(value: &Value, mark: &mut Mark, into: &mut [u8]) -> usize
     requires sendable { IsSendable value.now }
     requires mark { IsMarkOf value.now mark.old }

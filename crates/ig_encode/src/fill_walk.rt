@@ -9,8 +9,9 @@ ghost use Rattle.ig_encode.specs.ListBytes.{pair_bytes};
 ghost use Rattle.ig_encode.specs.Spans.{type_of, least_width, field_offsets, canonical_header, extent_of, field_footer, least_footer};
 ghost use Rattle.ig_encode.specs.WindowOutput.{window_after};
 
+use crate::coded::{put_kinded, put_typed};
 use crate::footer::put_footer;
-use crate::leaves::{put_kinded, put_leaf, put_typed};
+use crate::leaves::put_leaf;
 use crate::measure::Measure;
 use crate::measure_walk::{measure_extent, measure_values};
 use crate::object::{HEADER_LEN, header_of, object_len, put_entry, put_header, write_head};

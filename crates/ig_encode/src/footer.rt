@@ -5,7 +5,6 @@ ghost use Rattle.std.specs.List.{flat_map};
 ghost use Rattle.ig_value.specs.Canon.{Canon};
 ghost use Rattle.ig_value.specs.Objects.{last_of};
 ghost use Rattle.ig_encode.specs.Spans.{type_of, field_offsets, offset_of, field_footer, least_footer, least_entries};
-ghost use Rattle.ig_encode.specs.Marks.{first_entry};
 ghost use Rattle.ig_encode.specs.WindowOutput.{window_after};
 
 use crate::mark::Step;
@@ -13,6 +12,7 @@ use crate::measure::Measure;
 use crate::measure_walk::{measure_extent, measure_value};
 use crate::object::{HEADER_LEN, entry_len, offset_after, offset_at, put_entry};
 use crate::output::Output;
+use crate::resume::next_step;
 use crate::span::{Offset, OffsetWidth};
 use crate::window::Window;
 use ig_value::{Shape, Value};
@@ -28,21 +28,8 @@ pub(crate) fn put_footer<S: Output>(
     ensures { (out.new, into.new) ≡ S.after out.old into.old
         (field_footer (type_of width) shape.now fields.now) }
 {
-    let first = entry_step(&[]);
+    let first = next_step(&[], HEADER_LEN as u64);
     put_entries(shape, fields, width, first, out, into);
-}
-
-/// The first of these steps, or else one to the first field of an object.
-pub(crate) fn entry_step(steps: &[Step]) -> Step
-    ensures { result ≡ first_entry steps.now }
-{
-    if steps.is_empty() {
-        return Step {
-            index: 0,
-            before: HEADER_LEN as u64,
-        };
-    }
-    steps[0]
 }
 
 /// Puts the entries of the fields from one on, where those before it were put.

@@ -1,20 +1,17 @@
-//! Values that hold no value, and what stands before the values that others hold.
+//! Values that hold no value.
 
 ghost use Rattle.std.specs.Prelude.{◌≡◌, ◌+◌, ◌*◌, ◌≤◌, ◌∷◌, ◌++◌, [], pos, length};
-ghost use Rattle.std.specs.Int.{w8, w32};
 ghost use Rattle.std.specs.List.{flat_map};
-ghost use Rattle.ig_base.specs.Numbers.{LE};
 ghost use Rattle.ig_value.specs.Table.{byte_of};
 ghost use Rattle.ig_value.specs.Canon.{Canon, counted_bytes, optional_bytes};
 ghost use Rattle.ig_encode.specs.Splice.{splice};
 ghost use Rattle.ig_encode.specs.ListBytes.{array_bytes};
 ghost use Rattle.ig_encode.specs.Leaves.{IsLeaf};
 
-use crate::heads::{Count, Kinded};
+use crate::coded::{Item, put_both, put_code, put_row, put_scalar, put_text};
+use crate::heads::Count;
 use crate::output::Output;
-use crate::spell::{Spell, WriteElement, put_count, write_count};
-use crate::splice::copy_at;
-use ig_base::Text;
+use crate::spell::{Spell, WriteElement};
 use ig_value::{Code, Value};
 
 /// Puts the canonical form of a value that holds no value. Puts nothing of another.
@@ -82,79 +79,6 @@ pub(crate) fn put_leaf<S: Output>(value: &Value, out: &mut S, into: &mut [u8])
     }
 }
 
-/// Puts a code.
-#[inline(always)]
-fn put_code<S: Output>(code: Code, out: &mut S, into: &mut [u8])
-    ensures { (out.new, into.new) ≡ S.after out.old into.old (byte_of code ∷ []) }
-{
-    out.put(into, &[code.byte()]);
-}
-
-/// Puts a code and an element, with one look at the room where there is room for both.
-#[inline(always)]
-fn put_scalar<E: WriteElement, S: Output>(code: Code, element: &E, out: &mut S, into: &mut [u8])
-    ensures { (out.new, into.new)
-        ≡ S.after out.old into.old (byte_of code ∷ E.Spell.bytes element.now) }
-{
-    let width = 1 + E::width();
-    if let Some(at) = out.place(into.len(), width) {
-        copy_at(into, at, &[code.byte()]);
-        element.write_at(into, at + 1);
-        return;
-    }
-    if !out.count(width) {
-        put_row(code, element, out, into);
-    }
-}
-
-/// Puts a code and a text.
-#[inline(never)]
-fn put_text<S: Output>(code: Code, text: &Text, out: &mut S, into: &mut [u8])
-    ensures { (out.new, into.new)
-        ≡ S.after out.old into.old (byte_of code ∷ counted_bytes text.now) }
-{
-    let bytes = text.as_str().as_bytes();
-    let Some(width) = bytes.len().checked_add(5) else {
-        put_row(code, text, out, into);
-        return;
-    };
-    if let Some(at) = out.place(into.len(), width) {
-        copy_at(into, at, &[code.byte()]);
-        write_count(bytes.len(), into, at + 1);
-        copy_at(into, at + 5, bytes);
-        return;
-    }
-    if !out.count(width) {
-        put_row(code, text, out, into);
-    }
-}
-
-/// Puts a code and a part.
-#[inline(never)]
-fn put_row<T: Spell, S: Output>(code: Code, part: &T, out: &mut S, into: &mut [u8])
-    ensures { (out.new, into.new) ≡ S.after out.old into.old (byte_of code ∷ T.bytes part.now) }
-{
-    put_code(code, out, into);
-    part.put(out, into);
-}
-
-/// Puts a code and two parts.
-#[inline(never)]
-fn put_both<T: Spell, U: Spell, S: Output>(
-    code: Code,
-    first: &T,
-    second: &U,
-    out: &mut S,
-    into: &mut [u8],
-)
-    ensures { (out.new, into.new)
-        ≡ S.after out.old into.old (byte_of code ∷ (T.bytes first.now ++ U.bytes second.now)) }
-{
-    put_code(code, out, into);
-    first.put(out, into);
-    second.put(out, into);
-}
-
 /// Puts a code and an array of elements.
 #[inline(never)]
 fn put_array<E: WriteElement, S: Output>(code: Code, elements: &[E], out: &mut S, into: &mut [u8])
@@ -214,7 +138,7 @@ fn put_parts<T: Spell, S: Output>(parts: &[T], out: &mut S, into: &mut [u8])
 
 /// Puts a code and an array of parts and nulls. Each part follows the inner code.
 #[inline(never)]
-fn put_optionals<T: Spell, S: Output>(
+fn put_optionals<T: Item, S: Output>(
     code: Code,
     inner: Code,
     parts: &[Option<T>],
@@ -223,7 +147,7 @@ fn put_optionals<T: Spell, S: Output>(
 )
     ensures { (out.new, into.new)
         ≡ S.after out.old into.old (byte_of code
-        ∷ array_bytes (optional_bytes (byte_of inner) T.bytes) parts.now) }
+        ∷ array_bytes (optional_bytes (byte_of inner) T.Spell.bytes) parts.now) }
 {
     let count = Count { items: parts.len() };
     put_scalar(code, &count, out, into);
@@ -231,14 +155,14 @@ fn put_optionals<T: Spell, S: Output>(
 }
 
 /// Puts parts and nulls, in order.
-fn put_each_optional<T: Spell, S: Output>(
+pub(crate) fn put_each_optional<T: Item, S: Output>(
     inner: Code,
     parts: &[Option<T>],
     out: &mut S,
     into: &mut [u8],
 )
     ensures { (out.new, into.new)
-        ≡ S.after out.old into.old (flat_map (optional_bytes (byte_of inner) T.bytes) parts.now) }
+        ≡ S.after out.old into.old (flat_map (optional_bytes (byte_of inner) T.Spell.bytes) parts.now) }
 {
     for part in parts {
         if out.is_full(into) {
@@ -249,46 +173,17 @@ fn put_each_optional<T: Spell, S: Output>(
 }
 
 /// Puts null, or a code and its part.
-fn put_optional<T: Spell, S: Output>(code: Code, part: &Option<T>, out: &mut S, into: &mut [u8])
+pub(crate) fn put_optional<T: Item, S: Output>(
+    code: Code,
+    part: &Option<T>,
+    out: &mut S,
+    into: &mut [u8],
+)
     ensures { (out.new, into.new)
-        ≡ S.after out.old into.old (optional_bytes (byte_of code) T.bytes part.now) }
+        ≡ S.after out.old into.old (optional_bytes (byte_of code) T.Spell.bytes part.now) }
 {
     match part {
         None => put_code(Code::Null, out, into),
-        Some(part) => put_row(code, part, out, into),
+        Some(part) => part.put_behind(code, out, into),
     }
-}
-
-/// Puts a code, a type, and a count.
-#[inline(never)]
-pub(crate) fn put_typed<S: Output>(
-    code: Code,
-    type_id: &i32,
-    count: usize,
-    out: &mut S,
-    into: &mut [u8],
-)
-    ensures { (out.new, into.new) ≡ S.after out.old into.old
-        (byte_of code ∷ (LE w32 type_id.now ++ LE w32 (pos count))) }
-{
-    put_row(code, type_id, out, into);
-    put_count(count, out, into);
-}
-
-/// Puts a code, a count, and a kind.
-pub(crate) fn put_kinded<S: Output>(
-    code: Code,
-    kind: &i8,
-    count: usize,
-    out: &mut S,
-    into: &mut [u8],
-)
-    ensures { (out.new, into.new) ≡ S.after out.old into.old
-        (byte_of code ∷ (LE w32 (pos count) ++ LE w8 kind.now)) }
-{
-    let kinded = Kinded {
-        items: count,
-        kind: *kind,
-    };
-    put_scalar(code, &kinded, out, into);
 }

@@ -17,9 +17,12 @@
 
 mod advance;
 mod calls;
+mod coded;
 mod fill_walk;
 mod footer;
 mod heads;
+mod items;
+mod leaf_len;
 mod leaves;
 mod length;
 mod mark;

@@ -1,11 +1,13 @@
 //! How far a value was shown.
 
 /// A step from a value to one of those inside it. The fields of an object, the items of a list, and
-/// the keys and values of a map, by turns, are counted from 0.
+/// the keys and values of a map, by turns, are counted from 0. Past the last of them one more step
+/// may go to the field whose entry in a footer is next, or to an item of an array whose items may
+/// be null.
 #[derive(Clone, Copy, Debug, PartialEq, Eq)]
 pub(crate) struct Step {
     pub(crate) index: usize,
-    /// The offset of the value inside, from the first byte of the one around it.
+    /// The offset of the value inside, or of the item, from the first byte of the one around it.
     pub(crate) before: u64,
 }
 

@@ -139,9 +139,26 @@ fn byte_after(hash: u32, byte: u8) -> u32
     hash.wrapping_mul(31).wrapping_add(signed)
 }
 
-/// Hashes more bytes.
-#[tactic(auto, unfolding(crate::specs::MeasureOutput::digest_after))]
+/// Hashes more bytes. What eight of them do to a hash is found beside the hash before them, so that
+/// a step waits for one product in place of eight.
 fn hash_more(digest: &mut Digest, bytes: &[u8])
+    ensures { digest.new ≡ digest_after digest.old bytes.now }
+{
+    let mut rest = bytes;
+    while rest.len() >= 8 {
+        let (eight, after) = rest.split_at(8);
+        let mut step = Digest { pow: 1, sum: 0 };
+        hash_each(&mut step, eight);
+        compose(digest, &step);
+        rest = after;
+    }
+    hash_each(digest, rest);
+}
+
+/// Hashes more bytes, one by one.
+#[inline(always)]
+#[tactic(auto, unfolding(crate::specs::MeasureOutput::digest_after))]
+fn hash_each(digest: &mut Digest, bytes: &[u8])
     ensures { digest.new ≡ digest_after digest.old bytes.now }
 {
     let mut pow = digest.pow;

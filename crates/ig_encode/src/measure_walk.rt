@@ -8,7 +8,9 @@ ghost use Rattle.ig_encode.specs.ListBytes.{pair_bytes};
 ghost use Rattle.ig_encode.specs.MeasureOutput.{measure_after, hashing_start};
 ghost use Rattle.ig_encode.specs.Spans.{extent_of, span_of};
 
-use crate::leaves::{put_kinded, put_leaf, put_typed};
+use crate::coded::{put_kinded, put_typed};
+use crate::leaf_len::count_leaf;
+use crate::leaves::put_leaf;
 use crate::measure::Measure;
 use crate::object::{count_object, note_entry, offset_after, put_measured};
 use crate::span::{Extent, Offset, OffsetWidth, Span};
@@ -46,13 +48,25 @@ pub(crate) fn measure_value(value: &Value, out: &mut Measure)
     }
 }
 
+/// Measures a value inside another, which is seldom more than a leaf.
+#[cycle(measure)]
+#[inline(always)]
+fn measure_item(value: &Value, out: &mut Measure)
+    ensures { out.new ≡ measure_after out.old (Canon value.now) }
+{
+    if count_leaf(value, out) {
+        return;
+    }
+    measure_value(value, out);
+}
+
 /// Measures values, in order.
 #[cycle(measure)]
 pub(crate) fn measure_values(values: &[Value], out: &mut Measure)
     ensures { out.new ≡ measure_after out.old (flat_map Canon values.now) }
 {
     for value in values {
-        measure_value(value, out);
+        measure_item(value, out);
     }
 }
 
@@ -62,8 +76,8 @@ fn measure_pairs(pairs: &[(Value, Value)], out: &mut Measure)
     ensures { out.new ≡ measure_after out.old (flat_map pair_bytes pairs.now) }
 {
     for (key, value) in pairs {
-        measure_value(key, out);
-        measure_value(value, out);
+        measure_item(key, out);
+        measure_item(value, out);
     }
 }
 
@@ -99,7 +113,7 @@ pub(crate) fn measure_extent(fields: &[Value]) -> Extent
     };
     for field in fields {
         last = offset_after(&measure.length);
-        measure_value(field, &mut measure);
+        measure_item(field, &mut measure);
     }
     Extent {
         length: measure.length,

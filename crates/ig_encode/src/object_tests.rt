@@ -1,8 +1,8 @@
 ghost use Rattle.std.specs.Prelude.{◌<◌, ◌≤◌, length};
 
 use super::*;
-use ig_base::{Boxed, Items, Octets, Text};
-use ig_value::{Object, Record, Shape, Value};
+use ig_base::{Boxed, Items, NodeId, Octets, Text};
+use ig_value::{Dec, Object, Record, Shape, Stamp, Value};
 use std::alloc::Global;
 use std::test::Fail;
 
@@ -216,6 +216,25 @@ fn listed(alloc: Global) -> Result<Value, Fail> {
     Ok(Value::Collection { kind: 1, items })
 }
 
+/// Two texts, and a null between them.
+static TEXTS: [u8; 19] = [
+    20, 3, 0, 0, 0, 9, 1, 0, 0, 0, 0x61, 101, 9, 2, 0, 0, 0, 0x62, 0x63,
+];
+
+fn with_null<T: Drop>(alloc: Global, first: T, last: T) -> Result<Items<Option<T>>, Fail> {
+    let mut items = Vec::new(alloc);
+    items.push(Some(first))?;
+    items.push(None)?;
+    items.push(Some(last))?;
+    Ok(Items::new(items))
+}
+
+fn texts(alloc: Global) -> Result<Value, Fail> {
+    let first = Text::new(String::from_str(alloc, "a")?);
+    let last = Text::new(String::from_str(alloc, "bc")?);
+    Ok(Value::Strs(with_null(alloc, first, last)?))
+}
+
 #[test]
 fn marks_go_on_at_every_cut(rt: HostRuntime) -> Result<(), Fail> {
     let alloc = rt.alloc();
@@ -223,6 +242,7 @@ fn marks_go_on_at_every_cut(rt: HostRuntime) -> Result<(), Fail> {
     assert!(rt; is_shown_at_every_cut(&value(alloc, nested(alloc)?)?, &NESTED));
     assert!(rt; is_shown_at_every_cut(&value(alloc, empty(alloc))?, &EMPTY));
     assert!(rt; is_shown_at_every_cut(&listed(alloc)?, &LISTED));
+    assert!(rt; is_shown_at_every_cut(&texts(alloc)?, &TEXTS));
     Ok(())
 }
 
@@ -324,6 +344,71 @@ fn wide(alloc: Global, named: bool) -> Result<Value, Fail> {
     fields.push(list(numbers(alloc, 10)?))?;
     fields.push(object_of(alloc, numbers(alloc, 1)?, named)?)?;
     object_of(alloc, fields, named)
+}
+
+fn uuids(alloc: Global) -> Result<Value, Fail> {
+    let first = NodeId { most: 1, least: 2 };
+    let last = NodeId { most: 3, least: 4 };
+    Ok(Value::Uuids(with_null(alloc, first, last)?))
+}
+
+fn dates(alloc: Global) -> Result<Value, Fail> {
+    Ok(Value::Dates(with_null(alloc, 5, -6)?))
+}
+
+fn times(alloc: Global) -> Result<Value, Fail> {
+    Ok(Value::Times(with_null(alloc, 7, -8)?))
+}
+
+fn timestamps(alloc: Global) -> Result<Value, Fail> {
+    let first = Stamp {
+        millis: 9,
+        nanos: 1,
+    };
+    let last = Stamp {
+        millis: -9,
+        nanos: 2,
+    };
+    Ok(Value::Timestamps(with_null(alloc, first, last)?))
+}
+
+fn decimal(alloc: Global, scale: i32) -> Result<Dec, Fail> {
+    let bytes = Octets::new(Vec::from_slice(alloc, &[1, 255])?);
+    Ok(Dec { scale, bytes })
+}
+
+fn decimals(alloc: Global) -> Result<Value, Fail> {
+    let first = decimal(alloc, 10)?;
+    let last = decimal(alloc, 11)?;
+    Ok(Value::Decimals(with_null(alloc, first, last)?))
+}
+
+fn nulls(alloc: Global, count: i32) -> Result<Value, Fail> {
+    let mut items = Vec::new(alloc);
+    for _ in 0..count {
+        items.push(None)?;
+    }
+    Ok(Value::Strs(Items::new(items)))
+}
+
+/// A list of arrays.
+fn list_of_arrays(alloc: Global) -> Result<Value, Fail> {
+    let mut items = numbers(alloc, 2)?;
+    items.push(nulls(alloc, 300)?)?;
+    items.push(texts(alloc)?)?;
+    Ok(list(items))
+}
+
+#[test]
+fn arrays_are_shown_in_pieces(rt: HostRuntime) -> Result<(), Fail> {
+    let alloc = rt.alloc();
+    assert!(rt; is_encoded_in_pieces(alloc, &uuids(alloc)?)?);
+    assert!(rt; is_encoded_in_pieces(alloc, &dates(alloc)?)?);
+    assert!(rt; is_encoded_in_pieces(alloc, &times(alloc)?)?);
+    assert!(rt; is_encoded_in_pieces(alloc, &timestamps(alloc)?)?);
+    assert!(rt; is_encoded_in_pieces(alloc, &decimals(alloc)?)?);
+    assert!(rt; is_encoded_in_pieces(alloc, &list_of_arrays(alloc)?)?);
+    Ok(())
 }
 
 #[test]

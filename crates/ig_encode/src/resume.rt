@@ -4,11 +4,13 @@ ghost use Rattle.std.specs.Prelude.{◌≡◌, ◌+◌, ◌<◌, ◌≤◌, ◌^
 ghost use Rattle.std.specs.List.{flat_map};
 ghost use Rattle.ig_value.specs.Canon.{Canon};
 ghost use Rattle.ig_encode.specs.WindowOutput.{window_after};
-ghost use Rattle.ig_encode.specs.Marks.{IsPath, IsTailPath, head_len, inner_values, paired_values, tail_bytes};
+ghost use Rattle.ig_encode.specs.Marks.{IsPath, IsTailPath, head_len, inner_values, inner_end, paired_values, tail_bytes, first_of};
 
 use crate::fill_walk::{fill_pairs, fill_value, fill_values};
-use crate::footer::{entry_step, put_footer_from, put_least_footer};
+use crate::footer::{put_footer_from, put_least_footer};
+use crate::items::fill_items;
 use crate::mark::Step;
+use crate::object::HEADER_LEN;
 use crate::window::Window;
 use ig_value::Value;
 
@@ -71,6 +73,16 @@ pub(crate) fn head_of(value: &Value) -> u64
     }
 }
 
+/// The first of these steps, or else one to the first of what stands from this offset on.
+pub(crate) fn next_step(path: &[Step], before: u64) -> Step
+    ensures { result ≡ first_of before path.now }
+{
+    if path.is_empty() {
+        return Step { index: 0, before };
+    }
+    path[0]
+}
+
 /// Puts the canonical form of the value to a window whose offset the path goes to.
 pub(crate) fn fill_from(value: &Value, path: &[Step], out: &mut Window, into: &mut [u8])
     requires { IsPath value.now out.old.skip path.now }
@@ -94,8 +106,7 @@ pub(crate) fn fill_from(value: &Value, path: &[Step], out: &mut Window, into: &m
 /// Puts what stands after the values inside, which end at this offset, to a window that a path goes
 /// to from there.
 fn fill_tail(value: &Value, end: u64, path: &[Step], out: &mut Window, into: &mut [u8])
-    requires end { end ≡ head_len value.now
-        + length (flat_map Canon (inner_values value.now)) }
+    requires end { end ≡ inner_end value.now }
     requires path { IsTailPath value.now end (end + out.old.skip) path.now }
     ensures { (out.new, into.new) ≡ window_after out.old into.old (tail_bytes value.now) }
 {
@@ -107,10 +118,13 @@ fn fill_tail(value: &Value, end: u64, path: &[Step], out: &mut Window, into: &mu
         Value::Object(object) => {
             let object = object.get();
             let fields = object.fields.as_slice();
-            let entry = entry_step(path);
+            let entry = next_step(path, HEADER_LEN as u64);
             put_footer_from(&object.shape, fields, end, entry, out, into);
         }
-        _ => fill_value(value, out, into),
+        _ => match path {
+            [] => fill_value(value, out, into),
+            [step, ..] => fill_items(value, *step, out, into),
+        },
     }
 }
 

@@ -126,6 +126,19 @@ fn text(alloc: Global, size: i32) -> Result<Value> {
     Ok(Value::Str(Text::new(letters)))
 }
 
+/// An array of texts, of which each fourth is null.
+fn texts(alloc: Global, size: i32) -> Result<Value> {
+    let mut texts = Vec::with_capacity(alloc, usize::try_from(size).unwrap_or(0))?;
+    for i in 0..size {
+        texts.push(if i % 4 == 3 {
+            None
+        } else {
+            Some(Text::new(String::from_str(alloc, "a small text")?))
+        })?;
+    }
+    Ok(Value::Strs(Items::new(texts)))
+}
+
 /// The value that a name stands for, with `size` items.
 fn named(alloc: Global, name: &str, size: i32) -> Result<Value> {
     match name {
@@ -134,6 +147,7 @@ fn named(alloc: Global, name: &str, size: i32) -> Result<Value> {
         "longs" => Ok(Value::Longs(items(alloc, size, |i| i64::from(i))?)),
         "doubles" => Ok(Value::Doubles(items(alloc, size, |i| u64::from(i.unsigned_abs()))?)),
         "text" => text(alloc, size),
+        "texts" => texts(alloc, size),
         "list" => list(alloc, size),
         "nested" => nested(alloc, size),
         "inlist" => inlist(alloc, size),
@@ -250,8 +264,8 @@ fn main(rt: HostRuntime) -> Result<()> {
         return measure(&rt, rounds, name.as_str(), size);
     }
     for name in [
-        "bytes", "ints", "longs", "doubles", "text", "list", "nested", "inlist", "map", "object",
-        "objects", "deep",
+        "bytes", "ints", "longs", "doubles", "text", "texts", "list", "nested", "inlist", "map",
+        "object", "objects", "deep",
     ] {
         measure(&rt, rounds, name, 1000)?;
     }

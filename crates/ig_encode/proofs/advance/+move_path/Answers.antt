@@ -21,7 +21,7 @@ move_on-requires-in-Some-end t c =
     let child = c.in-Some.child.now in
     let end = end_is c.move_path-below.result.end c.in-Some-end.end (length (Canon child)) (c.args.offset - step.before) c.in-Some-end.is c.move_path-below.ensures.end in
     let is = known_step c.args.value.now c.args.offset c.args.steps.now c.args.known (record { index = 0; before = 0 }) c.if-known-eq0.false c.requires.known c.requires.path in
-    λ le. step_more (head_len c.args.value.now) (inner_values c.args.value.now) c.args.offset step child (step.before + c.in-Some-end.end) is c.in-Some.ensures.child (ap (λ n. step.before + n) end.0) le
+    λ le. step_more Canon (head_len c.args.value.now) (inner_values c.args.value.now) c.args.offset step child (step.before + c.in-Some-end.end) is c.in-Some.ensures.child (ap (λ n. step.before + n) end.0) le
 
 pub returns-in-None-clause-path : goal.returns-in-None-clause-path
 returns-in-None-clause-path t c =

@@ -60,7 +60,7 @@ measure_extent-loop-field-init t c = record { counted = c.counting-measure.ensur
 
 pub measure_extent-loop-field-preserved : goal.measure_extent-loop-field-preserved
 measure_extent-loop-field-preserved t c = record {
-  counted = measured_more Canon counting_start c.args.fields.now c.loop-field.field-index c.field-item.result c.loop-field.measure c.measure_value.new.out c.loop-field-test.true c.field-item.is c.loop-field.invariant.counted c.measure_value.ensures;
+  counted = measured_more Canon counting_start c.args.fields.now c.loop-field.field-index c.field-item.result c.loop-field.measure c.measure_item.new.out c.loop-field-test.true c.field-item.is c.loop-field.invariant.counted c.measure_item.ensures;
   last = c.offset_after-last.ensures (length (flat_map Canon (take c.loop-field.field-index c.args.fields.now))) (ap (λ (m : Measure). m.length) c.loop-field.invariant.counted)
       ∙ ap offset_of (sym (last_next c.args.fields.now c.loop-field.field-index c.field-item.result c.loop-field-test.true));
 }
@@ -73,12 +73,12 @@ measure_pairs-loop-key-init t c = measure_none c.args.out.now
 
 pub measure_values-loop-value-preserved : goal.measure_values-loop-value-preserved
 measure_values-loop-value-preserved t c =
-    measured_more Canon c.args.out.now c.args.values.now c.loop-value.value-index c.value-item.result c.loop-value.out c.measure_value.new.out c.loop-value-test.true c.value-item.is c.loop-value.invariant c.measure_value.ensures
+    measured_more Canon c.args.out.now c.args.values.now c.loop-value.value-index c.value-item.result c.loop-value.out c.measure_item.new.out c.loop-value-test.true c.value-item.is c.loop-value.invariant c.measure_item.ensures
 
 pub measure_pairs-loop-key-preserved : goal.measure_pairs-loop-key-preserved
 measure_pairs-loop-key-preserved t c =
-    measured_more pair_bytes c.args.out.now c.args.pairs.now c.loop-key.key-index c.loop-key-item.result c.loop-key.out c.measure_value-in-loop-key.new.out c.loop-key-test.true c.loop-key-item.is c.loop-key.invariant
-    (c.measure_value-in-loop-key.ensures ∙ ap (λ m. measure_after m (Canon c.loop-key-item.result.1)) c.measure_value.ensures ∙ sym (measure_two c.loop-key.out (Canon c.loop-key-item.result.0) (Canon c.loop-key-item.result.1)))
+    measured_more pair_bytes c.args.out.now c.args.pairs.now c.loop-key.key-index c.loop-key-item.result c.loop-key.out c.measure_item-in-loop-key.new.out c.loop-key-test.true c.loop-key-item.is c.loop-key.invariant
+    (c.measure_item-in-loop-key.ensures ∙ ap (λ m. measure_after m (Canon c.loop-key-item.result.1)) c.measure_item.ensures ∙ sym (measure_two c.loop-key.out (Canon c.loop-key-item.result.0) (Canon c.loop-key-item.result.1)))
 
 pub measure_span-loop-index-init : goal.measure_span-loop-index-init
 measure_span-loop-index-init t c = span_none hashing_start c.args.shape.now c.hashing.result c.hashing-2.result c.hashing-3.result c.hashing-4.result c.hashing.ensures c.hashing-2.ensures c.hashing-3.ensures c.hashing-4.ensures
@@ -127,22 +127,22 @@ measure_object-measure_span-span-requires t c =
     let same = ap (λ (l : List Value). greatest (map Depth l)) c.as_slice-fields.ensures in
     (omega (arith, same), tt)
 
-pub measure_values-measure_value-requires : goal.measure_values-measure_value-requires
-measure_values-measure_value-requires t c =
+pub measure_values-measure_item-requires : goal.measure_values-measure_item-requires
+measure_values-measure_item-requires t c =
     (omega (arith, greatest_item Depth c.args.values.now c.loop-value.value-index c.value-item.result c.loop-value-test.true, ap Depth c.value-item.is), tt)
 
-pub measure_extent-measure_value-requires : goal.measure_extent-measure_value-requires
-measure_extent-measure_value-requires t c =
+pub measure_extent-measure_item-requires : goal.measure_extent-measure_item-requires
+measure_extent-measure_item-requires t c =
     (omega (arith, greatest_item Depth c.args.fields.now c.loop-field.field-index c.field-item.result c.loop-field-test.true, ap Depth c.field-item.is), tt)
 
 pub measure_span-measure_value-requires : goal.measure_span-measure_value-requires
 measure_span-measure_value-requires t c =
     (omega (arith, greatest_item Depth c.args.fields.now c.loop-index.index c.index-fields-index.result c.loop-index-test.true, ap Depth c.index-fields-index.is), tt)
 
-pub measure_pairs-measure_value-requires : goal.measure_pairs-measure_value-requires
-measure_pairs-measure_value-requires t c =
+pub measure_pairs-measure_item-requires : goal.measure_pairs-measure_item-requires
+measure_pairs-measure_item-requires t c =
     (omega (arith, greatest_item pair_depth c.args.pairs.now c.loop-key.key-index c.loop-key-item.result c.loop-key-test.true, ap pair_depth c.loop-key-item.is), tt)
 
-pub measure_pairs-measure_value-requires-in-loop-key : goal.measure_pairs-measure_value-requires-in-loop-key
-measure_pairs-measure_value-requires-in-loop-key t c =
+pub measure_pairs-measure_item-requires-in-loop-key : goal.measure_pairs-measure_item-requires-in-loop-key
+measure_pairs-measure_item-requires-in-loop-key t c =
     (omega (arith, greatest_item pair_depth c.args.pairs.now c.loop-key.key-index c.loop-key-item.result c.loop-key-test.true, ap pair_depth c.loop-key-item.is), tt)

@@ -27,16 +27,19 @@ abbrev pub decreases-measure_value : goal.decreases-measure_value
 decreases-measure_value l = 4 * Depth l.value.now
 
 abbrev pub decreases-measure_values : goal.decreases-measure_values
-decreases-measure_values l = 4 * greatest (map Depth l.values.now) + 1
+decreases-measure_values l = 4 * greatest (map Depth l.values.now) + 2
 
 abbrev pub decreases-measure_pairs : goal.decreases-measure_pairs
-decreases-measure_pairs l = 4 * greatest (map pair_depth l.pairs.now) + 1
+decreases-measure_pairs l = 4 * greatest (map pair_depth l.pairs.now) + 2
 
 abbrev pub decreases-measure_object : goal.decreases-measure_object
-decreases-measure_object l = 4 * greatest (map Depth l.object.now.fields) + 2
+decreases-measure_object l = 4 * greatest (map Depth l.object.now.fields) + 3
 
 abbrev pub decreases-measure_extent : goal.decreases-measure_extent
-decreases-measure_extent l = 4 * greatest (map Depth l.fields.now) + 1
+decreases-measure_extent l = 4 * greatest (map Depth l.fields.now) + 2
 
 abbrev pub decreases-measure_span : goal.decreases-measure_span
 decreases-measure_span l = 4 * greatest (map Depth l.fields.now) + 1
+
+abbrev pub decreases-measure_item : goal.decreases-measure_item
+decreases-measure_item l = 4 * Depth l.value.now + 1

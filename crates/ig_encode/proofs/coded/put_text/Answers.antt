@@ -6,7 +6,7 @@ use Rattle.ig_value.specs.Canon.{counted_bytes}
 use Rattle.ig_encode.specs.Splice.{splice}
 use Rattle.ig_encode.specs.HeadBytes.{wide_count}
 use Rattle.ig_encode.proofs.OutputLemmas.{placed, spliced_next}
-use Rattle.ig_encode.proofs.leaves.put_text.Goals as goal
+use Rattle.ig_encode.proofs.coded.put_text.Goals as goal
 
 pub returns-else-not-count : goal.returns-else-not-count
 returns-else-not-count g c =

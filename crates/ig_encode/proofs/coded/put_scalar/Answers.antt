@@ -2,7 +2,7 @@ use Rattle.std.proofs.Common.{List, ℕ, ◌+◌, [], ◌∷◌, refl, ap, ◌�
 use Rattle.ig_value.specs.Table.{byte_of}
 use Rattle.ig_encode.specs.Splice.{splice}
 use Rattle.ig_encode.proofs.OutputLemmas.{placed, spliced_next}
-use Rattle.ig_encode.proofs.leaves.put_scalar.Goals as goal
+use Rattle.ig_encode.proofs.coded.put_scalar.Goals as goal
 
 pub returns-in-Some : goal.returns-in-Some
 returns-in-Some g c =
