@@ -26,15 +26,24 @@ module _ {A B : Type 0} (same : A → A → Bool) (P : List ℕ → Field A) (Q 
   tested_new left xs ys new (Ok x) = rw (new x.0) refl
   tested_new left xs ys new (Err stop) = refl
 
+  abbrev Later : ℕ → List A → List A → Type 0
+  Later n xs ys = (x : A) (t : List ℕ) → each_new_of same P Q (x ∷ xs) n t ≡ each_new_of same P Q (x ∷ ys) n t
+
+  abbrev after_key : List A → ℕ → A → Field B → Field (List (A × B))
+  after_key earlier n x r = r >>= λ y. each_new_of same P Q (x ∷ earlier) n y.1 >>= λ zs. Ok ((x, y.0) ∷ zs.0, zs.1)
+
+  abbrev after_test : List A → ℕ → Field A → Field (List (A × B))
+  after_test earlier n r = r >>= λ x. after_key earlier n x.0 (Q x.1)
+
   pub each_new : (n : ℕ) (xs ys : List A) (s : List ℕ) → AreAsNew xs ys → each_new_of same P Q xs n s ≡ each_new_of same P Q ys n s
   each_new zero xs ys s new = refl
-  each_new (suc n) xs ys s new = rw (tested_new (length s) xs ys new (P s)) (by_key (tested_of P (is_new same ys) s)) where
-    by_rest : (x : A) (r : Field B) → (r >>= λ y. each_new_of same P Q (x ∷ xs) n y.1 >>= λ zs. Ok ((x, y.0) ∷ zs.0, zs.1)) ≡ (r >>= λ y. each_new_of same P Q (x ∷ ys) n y.1 >>= λ zs. Ok ((x, y.0) ∷ zs.0, zs.1))
-    by_rest x (Ok y) = rw (each_new n (x ∷ xs) (x ∷ ys) y.1 (λ q. ap (λ (b : Bool). not (same x q) && b) (new q))) refl
-    by_rest x (Err left) = refl
-    by_key : (r : Field A) → (r >>= λ x. Q x.1 >>= λ y. each_new_of same P Q (x.0 ∷ xs) n y.1 >>= λ zs. Ok ((x.0, y.0) ∷ zs.0, zs.1)) ≡ (r >>= λ x. Q x.1 >>= λ y. each_new_of same P Q (x.0 ∷ ys) n y.1 >>= λ zs. Ok ((x.0, y.0) ∷ zs.0, zs.1))
-    by_key (Ok x) = by_rest x.0 (Q x.1)
-    by_key (Err left) = refl
+  each_new (suc n) xs ys s new = rw (tested_new (length s) xs ys new (P s)) (by_key (λ x t. each_new n (x ∷ xs) (x ∷ ys) t (λ q. ap (λ (b : Bool). not (same x q) && b) (new q))) (tested_of P (is_new same ys) s)) where
+    by_rest : Later n xs ys → (x : A) (r : Field B) → after_key xs n x r ≡ after_key ys n x r
+    by_rest later x (Ok y) = rw (later x y.1) refl
+    by_rest later x (Err left) = refl
+    by_key : Later n xs ys → (r : Field A) → after_test xs n r ≡ after_test ys n r
+    by_key later (Ok x) = by_rest later x.0 (Q x.1)
+    by_key later (Err left) = refl
 
 -- ---- the keys of a map
 
@@ -64,13 +73,13 @@ module _ {K X : Type 0} (R : K → K → Ordering) (o : IsTotalOrder R) where
   -- after a put, what isn't equal to the key and was new is new
   pub new_after : (k : K) (v : X) (es : List (K × X)) → IsAbsent k es → (q : K) → (not (eq_by_cmp R k q) && new_key es q) ≡ new_key (insert_entry R es k v) q
   new_after k v [] absent q = refl
-  new_after k v (e ∷ es) absent q = by_order (R k e.0) absent where
-    by_order : (r : Ordering) → cond (is_eq r) (Some e.1) (lookup (is_at (R k)) es) ≡ None → (not (eq_by_cmp R k q) && new_key (e ∷ es) q) ≡ new_key (put_beside k v e es r) q
-    by_order Less none = refl
-    by_order Equal found = absurd cc
-    by_order Greater none =
+  new_after k v (e ∷ es) absent q = by_order (λ none. new_after k v es none q) (R k e.0) absent where
+    by_order : (IsAbsent k es → (not (eq_by_cmp R k q) && new_key es q) ≡ new_key (insert_entry R es k v) q) → (r : Ordering) → cond (is_eq r) (Some e.1) (lookup (is_at (R k)) es) ≡ None → (not (eq_by_cmp R k q) && new_key (e ∷ es) q) ≡ new_key (put_beside k v e es r) q
+    by_order later Less none = refl
+    by_order later Equal found = absurd cc
+    by_order later Greater none =
         swapped (not (eq_by_cmp R k q)) (not (eq_by_cmp R e.0 q)) (new_key es q)
-        ∙ ap (λ (b : Bool). not (eq_by_cmp R e.0 q) && b) (new_after k v es none q)
+        ∙ ap (λ (b : Bool). not (eq_by_cmp R e.0 q) && b) (later none)
 
   -- ---- one more item
 

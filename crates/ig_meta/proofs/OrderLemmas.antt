@@ -26,20 +26,20 @@ module _ {K X : Type 0} (R : K → K → Ordering) (o : IsTotalOrder R) where
 
   first_stays : (q k : K) (v : X) (es : List (K × X)) → First q es → R q k ≡ Less → First q (insert_entry R es k v)
   first_stays q k v [] h less = (less, tt)
-  first_stays q k v (e ∷ es) h less = by_order (R k e.0) where
-    by_order : (r : Ordering) → First q (put_beside k v e es r)
-    by_order Less = (less, h)
-    by_order Equal = h
-    by_order Greater = (h.0, first_stays q k v es h.1 less)
+  first_stays q k v (e ∷ es) h less = by_order (first_stays q k v es h.1 less) (R k e.0) where
+    by_order : First q (insert_entry R es k v) → (r : Ordering) → First q (put_beside k v e es r)
+    by_order later Less = (less, h)
+    by_order later Equal = h
+    by_order later Greater = (h.0, later)
 
   put_ascends : (k : K) (v : X) (es : List (K × X)) → Ascend es → Ascend (insert_entry R es k v)
   unfolding IsStrictlySortedBy
   put_ascends k v [] h = (tt, tt)
-  put_ascends k v (e ∷ es) h = by_order (R k e.0) refl where
-    by_order : (r : Ordering) → R k e.0 ≡ r → Ascend (put_beside k v e es r)
-    by_order Less less = ((less, before_all R o k e.0 (keys_of es) less h.0), h)
-    by_order Equal tied = h
-    by_order Greater more = (first_stays e.0 k v es h.0 (less_from_more R o k e.0 more), put_ascends k v es h.1)
+  put_ascends k v (e ∷ es) h = by_order (put_ascends k v es h.1) (R k e.0) refl where
+    by_order : Ascend (insert_entry R es k v) → (r : Ordering) → R k e.0 ≡ r → Ascend (put_beside k v e es r)
+    by_order later Less less = ((less, before_all R o k e.0 (keys_of es) less h.0), h)
+    by_order later Equal tied = h
+    by_order later Greater more = (first_stays e.0 k v es h.0 (less_from_more R o k e.0 more), later)
 
   all_ascend : (es xs : List (K × X)) → Ascend es → Ascend (with_entries R es xs)
   all_ascend es [] h = h
@@ -93,11 +93,11 @@ module _ {K X : Type 0} (R : K → K → Ordering) (o : IsTotalOrder R) where
 
     put_holds : (k : K) (v : X) (es : List (K × X)) → Hold es → P k → Q v → Hold (insert_entry R es k v)
     put_holds k v [] h p q = ((p, q), tt)
-    put_holds k v (e ∷ es) h p q = by_order (R k e.0) where
-      by_order : (r : Ordering) → Hold (put_beside k v e es r)
-      by_order Less = ((p, q), h)
-      by_order Equal = ((h.0.0, q), h.1)
-      by_order Greater = (h.0, put_holds k v es h.1 p q)
+    put_holds k v (e ∷ es) h p q = by_order (put_holds k v es h.1 p q) (R k e.0) where
+      by_order : Hold (insert_entry R es k v) → (r : Ordering) → Hold (put_beside k v e es r)
+      by_order later Less = ((p, q), h)
+      by_order later Equal = ((h.0.0, q), h.1)
+      by_order later Greater = (h.0, later)
 
     all_hold : (es xs : List (K × X)) → Hold es → Hold xs → Hold (with_entries R es xs)
     all_hold es [] h each = h
@@ -108,11 +108,11 @@ module _ {K X : Type 0} (R : K → K → Ordering) (o : IsTotalOrder R) where
 
   put_longer : (k : K) (v : X) (es : List (K × X)) → length (insert_entry R es k v) ≤ suc (length es)
   put_longer k v [] = omega arith
-  put_longer k v (e ∷ es) = by_order (R k e.0) where
-    by_order : (r : Ordering) → length (put_beside k v e es r) ≤ suc (suc (length es))
-    by_order Less = omega arith
-    by_order Equal = omega arith
-    by_order Greater = let more = put_longer k v es in omega (arith, more)
+  put_longer k v (e ∷ es) = by_order (put_longer k v es) (R k e.0) where
+    by_order : length (insert_entry R es k v) ≤ suc (length es) → (r : Ordering) → length (put_beside k v e es r) ≤ suc (suc (length es))
+    by_order more Less = omega arith
+    by_order more Equal = omega arith
+    by_order more Greater = omega (arith, more)
 
   all_longer : (es xs : List (K × X)) → length (with_entries R es xs) ≤ length es + length xs
   all_longer es [] = omega arith

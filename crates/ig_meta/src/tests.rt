@@ -3,7 +3,7 @@ ghost use Rattle.ig_fields.specs.Ask.{row_at};
 ghost use Rattle.ig_meta.specs.Results.{result_of, IsMetaShown};
 
 use super::*;
-use ig_base::{Octets, Text};
+use ig_base::{NoMemory, Octets, Text};
 use ig_caches::{Call, Request, Shown};
 use ig_wire::{AskFault, Operation, Profile, ReadFault};
 use std::alloc::Global;
@@ -192,7 +192,7 @@ fn same(bytes: &[u8], wanted: &[u8]) -> Seen {
 }
 
 /// The frame of a request of the operation with these fields.
-fn frame_of(alloc: Global, op: i16, fields: &[u8]) -> Result<Vec<u8>, Fail> {
+fn frame_of(alloc: Global, op: i16, fields: &[u8]) -> Result<Vec<u8>, NoMemory> {
     let mut frame = Vec::new(alloc);
     frame.extend_from_slice(&((HEAD + fields.len()) as u32).to_le_bytes())?;
     frame.extend_from_slice(&op.to_le_bytes())?;
