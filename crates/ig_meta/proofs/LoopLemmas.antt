@@ -52,6 +52,10 @@ swapped true b c = refl
 swapped false true c = refl
 swapped false false c = refl
 
+-- what is read into a map of these entries
+abbrev pub read_into : {K X : Type 0} → (K → K → Ordering) → (List ℕ → Field K) → (List ℕ → Field X) → List (K × X) → ℕ → List ℕ → Field (List (K × X))
+read_into R P Q es n s = mapped_of (with_entries R es) (each_new_of (eq_by_cmp R) P Q (keys_of es) n s)
+
 module _ {K X : Type 0} (R : K → K → Ordering) (o : IsTotalOrder R) where
   abbrev IsAbsent : K → List (K × X) → Type 0
   IsAbsent k es = lookup (is_at (R k)) es ≡ None
@@ -84,9 +88,8 @@ module _ {K X : Type 0} (R : K → K → Ordering) (o : IsTotalOrder R) where
   -- ---- one more item
 
   module _ (P : List ℕ → Field K) (Q : List ℕ → Field X) where
-    -- what is read into a map of these entries
-    abbrev pub read_into : List (K × X) → ℕ → List ℕ → Field (List (K × X))
-    read_into es n s = mapped_of (with_entries R es) (each_new_of (eq_by_cmp R) P Q (keys_of es) n s)
+    abbrev Reads : List (K × X) → ℕ → List ℕ → Field (List (K × X))
+    Reads es n s = read_into R P Q es n s
 
     item_put : (es : List (K × X)) (k : K) (v : X) (r : Field (List (K × X))) → mapped_of (with_entries R es) (r >>= λ xs. Ok ((k, v) ∷ xs.0, xs.1)) ≡ mapped_of (with_entries R (insert_entry R es k v)) r
     item_put es k v (Ok xs) = refl
@@ -100,44 +103,44 @@ module _ {K X : Type 0} (R : K → K → Ordering) (o : IsTotalOrder R) where
 
     -- an item with a new key was read
     pub one_put : (es fs : List (K × X)) (left left' : ℕ) (s : List ℕ) (k : K) (t : List ℕ) (v : X) (u : List ℕ) (total : Field (List (K × X))) → left ≡ suc left' → P s ≡ Ok (k, t) → false ≡ is_some (lookup (is_at (R k)) es)
-        → Q t ≡ Ok (v, u) → fs ≡ insert_entry R es k v → read_into es left s ≡ total → read_into fs left' u ≡ total
+        → Q t ≡ Ok (v, u) → fs ≡ insert_entry R es k v → Reads es left s ≡ total → Reads fs left' u ≡ total
     one_put es fs left left' s k t v u total count key absent item put so_far =
         let none : IsAbsent k es = absent_from k es absent in
         let new : new_key es k ≡ true = new_is k es ∙ ap (λ (b : Bool). not b) (sym absent) in
-        let read : read_into es left s ≡ mapped_of (with_entries R es) (each_new_of (eq_by_cmp R) P Q (k ∷ keys_of es) left' u >>= λ xs. Ok ((k, v) ∷ xs.0, xs.1)) = rw (count, key, new, item) refl in
+        let read : Reads es left s ≡ mapped_of (with_entries R es) (each_new_of (eq_by_cmp R) P Q (k ∷ keys_of es) left' u >>= λ xs. Ok ((k, v) ∷ xs.0, xs.1)) = rw (count, key, new, item) refl in
         let moved : each_new_of (eq_by_cmp R) P Q (k ∷ keys_of es) left' u ≡ each_new_of (eq_by_cmp R) P Q (keys_of (insert_entry R es k v)) left' u =
           each_new (eq_by_cmp R) P Q left' (k ∷ keys_of es) (keys_of (insert_entry R es k v)) u (new_after k v es none) in
-        ap (λ (l : List (K × X)). read_into l left' u) put
+        ap (λ (l : List (K × X)). Reads l left' u) put
         ∙ ap (mapped_of (with_entries R (insert_entry R es k v))) (sym moved)
         ∙ sym (item_put es k v (each_new_of (eq_by_cmp R) P Q (k ∷ keys_of es) left' u))
         ∙ sym read ∙ so_far
 
     -- a key could not be read
-    pub key_failed : (e : ReadError) (es : List (K × X)) (left left' : ℕ) (s : List ℕ) (total : Field (List (K × X))) → left ≡ suc left' → Fails e (P s) → read_into es left s ≡ total → Fails e total
+    pub key_failed : (e : ReadError) (es : List (K × X)) (left left' : ℕ) (s : List ℕ) (total : Field (List (K × X))) → left ≡ suc left' → Fails e (P s) → Reads es left s ≡ total → Fails e total
     key_failed error.NoMemory es left left' s total count fails so_far = tt
     key_failed (error.Stopped stop) es left left' s total count fails so_far =
-        let read : read_into es left s ≡ Err stop.left = rw (count, fails) refl in
+        let read : Reads es left s ≡ Err stop.left = rw (count, fails) refl in
         sym so_far ∙ read
 
     -- a key was there already
     pub key_repeated : (es : List (K × X)) (left left' : ℕ) (s : List ℕ) (k : K) (t : List ℕ) (total : Field (List (K × X))) → left ≡ suc left' → P s ≡ Ok (k, t) → true ≡ is_some (lookup (is_at (R k)) es)
-        → read_into es left s ≡ total → total ≡ Err (length s)
+        → Reads es left s ≡ total → total ≡ Err (length s)
     key_repeated es left left' s k t total count key found so_far =
         let old : new_key es k ≡ false = new_is k es ∙ ap (λ (b : Bool). not b) (sym found) in
-        let read : read_into es left s ≡ Err (length s) = rw (count, key, old) refl in
+        let read : Reads es left s ≡ Err (length s) = rw (count, key, old) refl in
         sym so_far ∙ read
 
     -- what follows a new key could not be read
     pub rest_failed : (e : ReadError) (es : List (K × X)) (left left' : ℕ) (s : List ℕ) (k : K) (t : List ℕ) (total : Field (List (K × X))) → left ≡ suc left' → P s ≡ Ok (k, t) → false ≡ is_some (lookup (is_at (R k)) es)
-        → Fails e (Q t) → read_into es left s ≡ total → Fails e total
+        → Fails e (Q t) → Reads es left s ≡ total → Fails e total
     rest_failed error.NoMemory es left left' s k t total count key absent fails so_far = tt
     rest_failed (error.Stopped stop) es left left' s k t total count key absent fails so_far =
         let new : new_key es k ≡ true = new_is k es ∙ ap (λ (b : Bool). not b) (sym absent) in
-        let read : read_into es left s ≡ Err stop.left = rw (count, key, new, fails) refl in
+        let read : Reads es left s ≡ Err stop.left = rw (count, key, new, fails) refl in
         sym so_far ∙ read
 
     -- none is left
-    pub all_put : (es : List (K × X)) (left : ℕ) (s : List ℕ) (total : Field (List (K × X))) → left ≡ 0 → read_into es left s ≡ total → total ≡ Ok (es, s)
+    pub all_put : (es : List (K × X)) (left : ℕ) (s : List ℕ) (total : Field (List (K × X))) → left ≡ 0 → Reads es left s ≡ total → total ≡ Ok (es, s)
     all_put es left s total count so_far =
-        let read : read_into es left s ≡ Ok (es, s) = rw count refl in
+        let read : Reads es left s ≡ Ok (es, s) = rw count refl in
         sym so_far ∙ read

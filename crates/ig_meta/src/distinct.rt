@@ -31,9 +31,9 @@ pub(crate) struct Distinct<M> {
 impl<M: Member> FieldFormat for Distinct<M> {
     type Item = Items<M>;
 
-    ghost format = { distinct M.Key.kind M.Rest.format };
+    ghost format = { distinct M.kind M.format };
 
-    ghost view = { members_view M.Key.cmp M.Key.view M.Rest.view M.made };
+    ghost view = { members_view M.Key.cmp M.key_view M.rest_view M.made };
 
     ghost fields = { map M.parts };
 
@@ -53,9 +53,9 @@ impl<M: Member> FieldFormat for Distinct<M> {
         put_members(members, out, into);
     }
 
-    ghost reads_as_format = { members_as M.Key.cmp M.Key.kind M.Rest.format M.Key.view M.Rest.view M.made M.Key.reads M.Rest.reads M.Key.reads_as_key M.Key.same_as_key M.Rest.reads_as_format };
+    ghost reads_as_format = { members_as M.Key.cmp M.kind M.format M.key_view M.rest_view M.made M.Key.reads M.Rest.reads M.reads_as_key M.same_as_key M.reads_as_rest };
 
-    ghost writes_as_format = { listed_written M.parts M.bytes (both_bytes (key_bytes M.Key.kind) (fields_bytes M.Rest.format)) M.writes_as_parts };
+    ghost writes_as_format = { listed_written M.parts M.bytes (both_bytes (key_bytes M.kind) (fields_bytes M.format)) M.writes_as_parts };
 }
 
 /// Keys with what follows each.

@@ -1,15 +1,12 @@
 //! What tells the members of a description apart: a name, or an identifier.
 
 ghost use Rattle.std.specs.Prelude.{◌≡◌, ℕ, List, Some, nat_eq, refl};
-ghost use Rattle.std.proofs.Common.{sym};
-ghost use Rattle.std.specs.Ordering.{nat_cmp, eq_by_cmp};
+ghost use Rattle.std.specs.Ordering.{nat_cmp};
 ghost use Rattle.std.specs.Cmp.{partial_equiv_from_equiv};
 ghost use Rattle.std.specs.Cmp.Lexicographic.{pointwise, slice_cmp, nat_list_eq_equiv, nat_list_cmp_total, texts_ties, texts_po};
 ghost use Rattle.ig_wire.specs.Fields.{Field, string_of};
 ghost use Rattle.ig_wire.specs.ReadAnswers.{ReadAnswers};
-ghost use Rattle.ig_fields.specs.Format.{Key, KeyValue, name, identifier, is_same_key};
-ghost use Rattle.ig_fields.specs.ReadingFields.{int_field, key_of};
-ghost use Rattle.ig_fields.specs.Views.{ReadsAs, same, mapped_same};
+ghost use Rattle.ig_fields.specs.ReadingFields.{int_field};
 
 use ig_base::Text;
 use ig_fields::FieldFormat;
@@ -20,23 +17,12 @@ use std::marker::Model;
 
 /// A key, by which members of a description are told apart and ordered.
 pub(crate) trait ListKey: Ord + Drop {
-    /// Its format.
-    ghost kind: { Key };
-
-    /// What a key of the format is, as the program has it.
-    ghost view: { KeyValue kind → Self };
-
     /// Reading a key from a list of bytes.
     ghost reads: { List ℕ → Field Self };
 
     /// The key that the bytes begin with, and the bytes after it.
     fn read(alloc: Global, input: &[u8]) -> Result<(Self, &[u8]), ReadError>
         ensures { ReadAnswers (λ x. (x.0, x.1.now)) result (reads input.now) };
-
-    ghost reads_as_key: { ReadsAs view reads (key_of kind) };
-
-    /// Two keys are equal if the order doesn't tell them apart.
-    ghost same_as_key: { (x y : KeyValue kind) → eq_by_cmp Self.cmp (view x) (view y) ≡ is_same_key kind x y };
 }
 
 /// A name, ordered by its bytes.
@@ -100,34 +86,18 @@ impl Ord for Name {
 }
 
 impl ListKey for Name {
-    ghost kind = { name };
-
-    ghost view = { same };
-
     ghost reads = { string_of };
 
     fn read(alloc: Global, input: &[u8]) -> Result<(Name, &[u8]), ReadError> {
         let (text, rest) = <Text as FieldFormat>::read(alloc, input)?;
         Ok((Name { text }, rest))
     }
-
-    ghost reads_as_key = { λ s. mapped_same (string_of s) };
-
-    ghost same_as_key = { λ x y. sym (texts_ties x y) };
 }
 
 impl ListKey for i32 {
-    ghost kind = { identifier };
-
-    ghost view = { same };
-
     ghost reads = { int_field };
 
     fn read(alloc: Global, input: &[u8]) -> Result<(i32, &[u8]), ReadError> {
         <i32 as FieldFormat>::read(alloc, input)
     }
-
-    ghost reads_as_key = { λ s. mapped_same (int_field s) };
-
-    ghost same_as_key = { λ x y. refl };
 }
