@@ -12,7 +12,8 @@ use Rattle.ig_caches.specs.declared.Call.{Call}
 use Rattle.ig_caches.specs.declared.Call.TheVariants as call
 use Rattle.ig_caches.specs.declared.Request.{Request}
 use Rattle.ig_caches.specs.declared.Request.TheVariants.{Run}
-use Rattle.ig_fields.specs.Format.{Fields}
+use Rattle.ig_value.specs.Part.{i32}
+use Rattle.ig_fields.specs.Format.{string, scalar, both, Fields}
 use Rattle.ig_fields.specs.SpellsFields.{SpellsFields}
 use Rattle.ig_fields.specs.Ask.{row_at, Ask}
 use Rattle.ig_fields.specs.AsksRightly.{AsksRightly}
@@ -21,7 +22,7 @@ use Rattle.ig_fields.proofs.FitsLemmas.{fields_fit}
 use Rattle.ig_fields.proofs.RowLemmas.{present, present_is}
 use Rattle.ig_fields.proofs.WrittenTableLemmas.{written_ask_read, written_asks_apart}
 use Rattle.ig_meta.specs.TypeFields.{type_format, type_of_fields, fields_of_type}
-use Rattle.ig_meta.specs.Requests.{name_profile, ask_of, IsMetaRequest, profile_of, form_of}
+use Rattle.ig_meta.specs.Requests.{type_name, name_profile, ask_of, IsMetaRequest, profile_of, form_of}
 use Rattle.ig_meta.specs.Laws.{IsRunnableRequest, PutsInOrder, FitsRequest, WrittenAskIsRead, AsksTellApart, SpelledRequestFits}
 use Rattle.ig_meta.proofs.TypeLemmas.{ordered_back, read_in_order, type_fits}
 
@@ -33,7 +34,7 @@ AskRuns ask = (x : Fields ask.format) → ask.profile x ≡ None → IsMetaReque
 
 name_present : (x : List ℕ) → name_profile x ≡ None → x ≢ []
 name_present [] none = absurd cc
-name_present (b ∷ bytes) none e = absurd cc
+name_present (b ∷ bytes) none = λ e. absurd cc
 
 by_row : (P : Ask Request → Type 0) (row ask : Ask Request) → P row → present row ≡ present ask → P ask
 by_row P row ask h e = subst P (present_is row ask e) h
@@ -76,12 +77,12 @@ AskFits ask = (s : List ℕ) (x : Fields ask.format) → length s < 2 ^ 31 → S
 
 ask_fits : (o : Operation) (ask : Ask Request) → ask_of o ≡ Some ask → AskFits ask
 ask_fits operation.CacheNames ask e = by_row AskFits _ ask (λ s x small h. record { known = tt; fields = tt; in_order = tt }) e
-ask_fits operation.Create ask e = by_row AskFits _ ask (λ s x small h. record { known = tt; fields = fields_fit _ s x small h; in_order = tt }) e
-ask_fits operation.GetOrCreate ask e = by_row AskFits _ ask (λ s x small h. record { known = tt; fields = fields_fit _ s x small h; in_order = tt }) e
-ask_fits operation.Destroy ask e = by_row AskFits _ ask (λ s x small h. record { known = tt; fields = fields_fit _ s x small h; in_order = tt }) e
-ask_fits operation.GetTypeName ask e = by_row AskFits _ ask (λ s x small h. record { known = tt; fields = fields_fit _ s x small h; in_order = tt }) e
-ask_fits operation.RegisterTypeName ask e = by_row AskFits _ ask (λ s x small h. record { known = tt; fields = fields_fit _ s x small h; in_order = tt }) e
-ask_fits operation.GetType ask e = by_row AskFits _ ask (λ s x small h. record { known = tt; fields = fields_fit _ s x small h; in_order = tt }) e
+ask_fits operation.Create ask e = by_row AskFits _ ask (λ s x small h. record { known = tt; fields = fields_fit string s x small h; in_order = tt }) e
+ask_fits operation.GetOrCreate ask e = by_row AskFits _ ask (λ s x small h. record { known = tt; fields = fields_fit string s x small h; in_order = tt }) e
+ask_fits operation.Destroy ask e = by_row AskFits _ ask (λ s x small h. record { known = tt; fields = fields_fit (scalar i32) s x small h; in_order = tt }) e
+ask_fits operation.GetTypeName ask e = by_row AskFits _ ask (λ s x small h. record { known = tt; fields = fields_fit type_name s x small h; in_order = tt }) e
+ask_fits operation.RegisterTypeName ask e = by_row AskFits _ ask (λ s x small h. record { known = tt; fields = fields_fit (both type_name string) s x small h; in_order = tt }) e
+ask_fits operation.GetType ask e = by_row AskFits _ ask (λ s x small h. record { known = tt; fields = fields_fit (scalar i32) s x small h; in_order = tt }) e
 ask_fits operation.PutType ask e = by_row AskFits _ ask (λ s x small h. record { known = tt; fields = type_fits x (fields_fit type_format s x small h); in_order = read_in_order x }) e
 ask_fits _ ask e = absurd cc
 

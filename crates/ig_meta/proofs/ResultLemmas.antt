@@ -1,6 +1,7 @@
 -- Results: what is read is in order, what is written is read, and what is read fits.
 use Rattle.std.proofs.Common.{◌≡◌, ◌≢◌, ℕ, ℤ, ◌<◌, ◌≤◌, ◌^◌, List, [], ◌∷◌, ◌++◌, length, drop, Option, None, Some, Result, Ok, Err, refl, sym, ap, subst, ◌∙◌, inl, inr}
 use Rattle.std.specs.Prelude.{IfOk, IfSome, IsSome}
+use Rattle.std.proofs.lemmas.Bool.{false≢true}
 use Rattle.std.specs.Option.{option_and_then}
 use Rattle.ig_base.specs.Numbers.{AreBytes}
 use Rattle.ig_wire.specs.Operations.{operation_at}
@@ -12,7 +13,8 @@ use Rattle.ig_caches.specs.declared.Outcome.TheVariants as outcome
 use Rattle.ig_caches.specs.declared.Shown.{Shown}
 use Rattle.ig_caches.specs.declared.Shown.TheVariants.{Out}
 use Rattle.ig_fields.specs.declared.Either.{Either}
-use Rattle.ig_fields.specs.Format.{Fields}
+use Rattle.ig_value.specs.Part.{truth}
+use Rattle.ig_fields.specs.Format.{string, scalar, listed, Fields}
 use Rattle.ig_fields.specs.SpellsFields.{SpellsFields}
 use Rattle.ig_fields.specs.FieldBytes.{FitsFields}
 use Rattle.ig_fields.specs.ReadingFields.{message_of}
@@ -100,12 +102,12 @@ abbrev FormFits : ResultForm Shown → Type 0
 FormFits form = (s : List ℕ) (x : Fields form.format) → length s < 2 ^ 31 → SpellsFields form.format s x → FitsShown (form.shown x)
 
 form_fits : (o : Operation) (form : ResultForm Shown) → result_of o ≡ Some form → FormFits form
-form_fits operation.CacheNames form e = by_form FormFits _ form (λ s x small h. record { known = tt; fields = fields_fit _ s x small h; in_order = tt }) e
+form_fits operation.CacheNames form e = by_form FormFits _ form (λ s x small h. record { known = tt; fields = fields_fit (listed string) s x small h; in_order = tt }) e
 form_fits operation.Create form e = by_form FormFits _ form (λ s x small h. record { known = tt; fields = tt; in_order = tt }) e
 form_fits operation.GetOrCreate form e = by_form FormFits _ form (λ s x small h. record { known = tt; fields = tt; in_order = tt }) e
 form_fits operation.Destroy form e = by_form FormFits _ form (λ s x small h. record { known = tt; fields = tt; in_order = tt }) e
-form_fits operation.GetTypeName form e = by_form FormFits _ form (λ s x small h. record { known = tt; fields = fields_fit _ s x small h; in_order = tt }) e
-form_fits operation.RegisterTypeName form e = by_form FormFits _ form (λ s x small h. record { known = tt; fields = fields_fit _ s x small h; in_order = tt }) e
+form_fits operation.GetTypeName form e = by_form FormFits _ form (λ s x small h. record { known = tt; fields = fields_fit string s x small h; in_order = tt }) e
+form_fits operation.RegisterTypeName form e = by_form FormFits _ form (λ s x small h. record { known = tt; fields = fields_fit (scalar truth) s x small h; in_order = tt }) e
 form_fits operation.GetType form e = by_form FormFits _ form (λ s x small h. record { known = tt; fields = found_fits x (fields_fit found_format s x small h); in_order = found_in_order x }) e
 form_fits operation.PutType form e = by_form FormFits _ form (λ s x small h. record { known = tt; fields = tt; in_order = tt }) e
 form_fits _ form e = absurd cc
@@ -140,10 +142,10 @@ read_known code body at answer known right = by_operation (operation_at code) kn
   by_answer o form e (Ok shown) h = subst IsKnown h.2 (shows_known o form e h.0)
   by_answer o form e (Err fault) h = tt
   by_form_of : (o : Operation) (row : Option (ResultForm Shown)) → result_of o ≡ row → IsSome row → IfSome row (λ form. ShowsRightly form body at answer) → IfOk answer IsKnown
-  by_form_of o None e k h = absurd k
+  by_form_of o None e k h = absurd (false≢true k)
   by_form_of o (Some form) e k h = by_answer o form e answer h
   by_operation : (o : Option Operation) → IsSome (option_and_then result_of o) → IfSome (option_and_then result_of o) (λ form. ShowsRightly form body at answer) → IfOk answer IsKnown
-  by_operation None k h = absurd k
+  by_operation None k h = absurd (false≢true k)
   by_operation (Some o) k h = by_form_of o (result_of o) refl k h
 
 pub shown_right : (row : Option (ResultForm Shown)) (body : List ℕ) (at : ℕ) (answer : Result Shown ReadFault) → AreBytes body → at ≤ length body → IfSome row (λ form. ShowsAs (shown_by form body at) answer) → IfSome row (λ form. ShowsRightly form body at answer)

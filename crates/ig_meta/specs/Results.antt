@@ -45,7 +45,7 @@ abbrev pub IsMetaShown : Shown → Type 0
 IsMetaShown (Out outcome.Done) = Unit {0}
 IsMetaShown (Out (outcome.Names names)) = Unit {0}
 IsMetaShown (Out (outcome.Name name)) = Unit {0}
-IsMetaShown (Out (outcome.Yes yes)) = Unit {0}
+IsMetaShown (Out (outcome.Yes answer)) = Unit {0}
 IsMetaShown (Out (outcome.Meta found)) = Unit {0}
 IsMetaShown _ = ⊥
 
@@ -57,7 +57,7 @@ found_fields (Some t) = inr (fields_of_type t)
 abbrev pub filled_of : Shown → Filled
 filled_of (Out (outcome.Names names)) = record { format = listed string; fields = names }
 filled_of (Out (outcome.Name name)) = record { format = string; fields = name }
-filled_of (Out (outcome.Yes yes)) = record { format = scalar truth; fields = yes }
+filled_of (Out (outcome.Yes answer)) = record { format = scalar truth; fields = answer }
 filled_of (Out (outcome.Meta found)) = record { format = found_format; fields = found_fields found }
 filled_of _ = record { format = nothing; fields = tt }
 

@@ -4,7 +4,7 @@
 ghost use Rattle.ig_fields.specs.TableLaws.{AskedIsRight, OneRightAsk, ShownIsRight, OneRightResult};
 ghost use Rattle.ig_meta.specs.Requests.{ask_of};
 ghost use Rattle.ig_meta.specs.Results.{result_of};
-ghost use Rattle.ig_meta.specs.Laws.{WrittenAskIsRead, AsksTellApart, SpelledRequestFits, WrittenResultIsRead, ResultsTellApart, SpelledResultFits, OrderedTypeComesBack, ReadTypeIsInOrder, ReadTypeHasItsMembers};
+ghost use Rattle.ig_meta.specs.Laws.{WrittenAskIsRead, AsksTellApart, SpelledRequestFits, WrittenResultIsRead, ResultsTellApart, SpelledResultFits, OrderedTypeComesBack, ReadTypeIsInOrder};
 
 /// What reading a request gives is the one right answer. A request that is written is read as it is, or
 /// refused for its empty name, and no two requests have the same bytes. What is read can be written.
@@ -26,10 +26,8 @@ pub fn meta_results_agree()
     ensures fit { SpelledResultFits }
 {}
 
-/// A description in order is what its fields hold. What fields hold is in order, and has the members
-/// that the fields list.
+/// A description in order is what its fields hold, and what fields hold is in order.
 pub fn read_types_are_in_order()
     ensures back { OrderedTypeComesBack }
     ensures in_order { ReadTypeIsInOrder }
-    ensures members { ReadTypeHasItsMembers }
 {}

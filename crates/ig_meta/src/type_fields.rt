@@ -1,5 +1,6 @@
 //! Descriptions of types as fields.
 
+ghost use Rattle.std.specs.Prelude.{◌≡◌};
 ghost use Rattle.ig_meta.specs.TypeFields.{type_format, type_of_fields, fields_of_type};
 ghost use Rattle.ig_meta.specs.TypeViews.{type_from, type_reading, type_bytes, type_as, type_written};
 
