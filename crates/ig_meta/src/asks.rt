@@ -78,24 +78,34 @@ fn asked_by(alloc: Global, operation: Operation, body: &[u8]) -> Result<Request,
     }
 }
 
-/// The creation of a cache of this name, unless it is empty.
+/// The name of a cache to be created, unless it is empty.
+fn some_name(name: Text) -> Result<Text, Profile>
+    ensures { result ≡ unless_refused name (name_profile name) }
+{
+    if name.as_str().is_empty() {
+        return Err(Profile::EmptyName);
+    }
+    Ok(name)
+}
+
+/// The creation of a cache.
 fn create(name: Text) -> Result<Request, Profile>
     ensures { result ≡ unless_refused (Run (call.Create name)) (name_profile name) }
 {
-    if name.as_str().is_empty() {
-        return Err(Profile::EmptyName);
+    match some_name(name) {
+        Ok(name) => Ok(Request::Run(Call::Create { name })),
+        Err(profile) => Err(profile),
     }
-    Ok(Request::Run(Call::Create { name }))
 }
 
-/// The same where a cache that stands is kept.
+/// The creation of a cache unless there is one.
 fn get_or_create(name: Text) -> Result<Request, Profile>
     ensures { result ≡ unless_refused (Run (call.GetOrCreate name)) (name_profile name) }
 {
-    if name.as_str().is_empty() {
-        return Err(Profile::EmptyName);
+    match some_name(name) {
+        Ok(name) => Ok(Request::Run(Call::GetOrCreate { name })),
+        Err(profile) => Err(profile),
     }
-    Ok(Request::Run(Call::GetOrCreate { name }))
 }
 
 /// The body of a request's frame: its identifier, and the request.
