@@ -96,8 +96,7 @@ impl Member for FieldMeta {
 
     fn put<S: ValueOutput>(&self, out: &mut S, into: &mut [u8]) {
         <Text as FieldFormat>::put(&self.name, out, into);
-        put_i32(self.kind, out, into);
-        put_i32(self.id, out, into);
+        <(i32, i32) as FieldFormat>::put(&(self.kind, self.id), out, into);
     }
 
     ghost reads_as_key = { λ s. mapped_same (string_of s) };
