@@ -16,7 +16,10 @@ use Rattle.ig_value.specs.Part.{i32}
 use Rattle.ig_fields.specs.Format.{string, scalar, both, Fields}
 use Rattle.ig_fields.specs.SpellsFields.{SpellsFields}
 use Rattle.ig_fields.specs.Ask.{row_at, Ask}
-use Rattle.ig_fields.specs.AsksRightly.{AsksRightly}
+use Rattle.ig_fields.specs.AsksRightly.{AsksRightly, asked}
+use Rattle.ig_base.specs.Numbers.{AreBytes}
+use Rattle.ig_fields.specs.AskAnswers.{AnswersAs}
+use Rattle.ig_fields.proofs.AskLemmas.{answer_is_right}
 use Rattle.ig_fields.specs.TableLaws.{IsRowOf}
 use Rattle.ig_fields.proofs.FitsLemmas.{fields_fit}
 use Rattle.ig_fields.proofs.RowLemmas.{present, present_is}
@@ -101,3 +104,21 @@ read_runs code body (Ok r) (ask, x, known, spelled, profile, request) = by_opera
   by_operation None e = absurd cc
   by_operation (Some o) e = subst Runs request (ask_runs o ask e x profile)
 read_runs code body (Err e) h = tt
+
+-- what reading by the operation gives is right
+pub read_right : (o : Option Operation) (operation : Operation) (body : List ℕ) (answer : Result Request AskFault) → Some operation ≡ o → AreBytes body → 10 ≤ length body → AnswersAs (asked (ask_of operation) body) answer → AsksRightly (option_and_then ask_of o) body answer
+read_right o operation body answer e bytes le h = subst (λ (p : Option Operation). AsksRightly (option_and_then ask_of p) body answer) e (answer_is_right (ask_of operation) body answer bytes le h)
+
+abbrev pub IsKnownAnswer : Result Request AskFault → Type 0
+IsKnownAnswer answer = IfOk answer IsMetaRequest
+
+abbrev pub IsRunnableAnswer : Result Request AskFault → Type 0
+IsRunnableAnswer answer = IfOk answer IsRunnableRequest
+
+pub answer_known : (answer : Result Request AskFault) → IfOk answer Runs → IsKnownAnswer answer
+answer_known (Ok r) h = h.0
+answer_known (Err e) h = tt
+
+pub answer_runs : (answer : Result Request AskFault) → IfOk answer Runs → IsRunnableAnswer answer
+answer_runs (Ok r) h = h.1
+answer_runs (Err e) h = tt

@@ -151,3 +151,11 @@ read_known code body at answer known right = by_operation (operation_at code) kn
 pub shown_right : (row : Option (ResultForm Shown)) (body : List ℕ) (at : ℕ) (answer : Result Shown ReadFault) → AreBytes body → at ≤ length body → IfSome row (λ form. ShowsAs (shown_by form body at) answer) → IfSome row (λ form. ShowsRightly form body at answer)
 shown_right None body at answer bytes le h = tt
 shown_right (Some form) body at answer bytes le h = shown_answer_is_right form body at answer bytes le h
+
+pub shown_known : (answer : Result Shown ReadFault) → IfOk answer IsKnown → IfOk answer IsMetaShown
+shown_known (Ok shown) h = h.0
+shown_known (Err e) h = tt
+
+pub shown_in_order : (answer : Result Shown ReadFault) → IfOk answer IsKnown → IfOk answer ShowsInOrder
+shown_in_order (Ok shown) h = h.1
+shown_in_order (Err e) h = tt

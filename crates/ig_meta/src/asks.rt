@@ -4,16 +4,18 @@ ghost use Rattle.std.specs.Prelude.{◌≡◌, ◌≢◌, ◌↔◌, ◌≤◌, 
 ghost use Rattle.ig_base.specs.Frames.{Frame, max_body};
 ghost use Rattle.ig_caches.specs.declared.Call.TheVariants as call;
 ghost use Rattle.ig_caches.specs.declared.Request.TheVariants.{Run};
+ghost use Rattle.ig_fields.specs.Format.{both, string as a_string};
+ghost use Rattle.ig_fields.specs.FieldBytes.{fields_bytes};
 ghost use Rattle.ig_fields.specs.Ask.{row_at, filled_bytes};
 ghost use Rattle.ig_fields.specs.AsksRightly.{AsksRightly, asked};
 ghost use Rattle.ig_fields.specs.AskAnswers.{AnswersAs, unless_refused};
-ghost use Rattle.ig_meta.specs.Requests.{ask_of, name_profile, IsMetaRequest, form_of, ask_body};
+ghost use Rattle.ig_meta.specs.Requests.{ask_of, type_name, name_profile, IsMetaRequest, form_of, ask_body};
 ghost use Rattle.ig_meta.specs.Laws.{IsRunnableRequest};
 
 use crate::type_fields::TypeFields;
 use ig_base::{NoMemory, Octets, Text};
 use ig_caches::{Call, Request};
-use ig_encode::{Output, ValueOutput, put_byte, put_i32};
+use ig_encode::{Output, ValueOutput};
 use ig_fields::{FieldFormat, Message, append_frame, put_ask_head, read_asked};
 use ig_wire::{AskFault, Operation, Profile};
 use std::alloc::Global;
@@ -157,27 +159,36 @@ fn put_fields<S: ValueOutput>(call: &Call, out: &mut S, into: &mut [u8])
         ≡ S.Output.after out.old into.old (filled_bytes (form_of (Run call.now)).filled) }
 {
     match call {
-        Call::Create { name } | Call::GetOrCreate { name } => {
-            <Text as FieldFormat>::put(name, out, into);
-        }
-        Call::Destroy { cache } => put_i32(*cache, out, into),
+        Call::Create { name } => <Text as FieldFormat>::put(name, out, into),
+        Call::GetOrCreate { name } => <Text as FieldFormat>::put(name, out, into),
+        Call::Destroy { cache } => <i32 as FieldFormat>::put(cache, out, into),
         Call::TypeName { platform, type_id } => {
-            put_byte(*platform, out, into);
-            put_i32(*type_id, out, into);
+            <(u8, i32) as FieldFormat>::put(&(*platform, *type_id), out, into)
         }
         Call::SetTypeName {
             platform,
             type_id,
             name,
-        } => {
-            put_byte(*platform, out, into);
-            put_i32(*type_id, out, into);
-            <Text as FieldFormat>::put(name, out, into);
-        }
-        Call::TypeOf { type_id } => put_i32(*type_id, out, into),
+        } => put_type_name(*platform, *type_id, name, out, into),
+        Call::TypeOf { type_id } => <i32 as FieldFormat>::put(type_id, out, into),
         Call::PutType { meta } => <TypeFields as FieldFormat>::put(meta, out, into),
         _ => {}
     }
+}
+
+/// Puts a platform, a type and its name there.
+fn put_type_name<S: ValueOutput>(
+    platform: u8,
+    type_id: i32,
+    name: &Text,
+    out: &mut S,
+    into: &mut [u8],
+)
+    ensures { (out.new, into.new) ≡ S.Output.after out.old into.old
+        (fields_bytes (both type_name a_string) ((platform, type_id), name.now)) }
+{
+    <(u8, i32) as FieldFormat>::put(&(platform, type_id), out, into);
+    <Text as FieldFormat>::put(name, out, into);
 }
 
 /// Appends the frame of a request, unless its body is above the limit of frames. Answers whether it

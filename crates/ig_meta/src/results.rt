@@ -6,7 +6,7 @@ ghost use Rattle.ig_fields.specs.Ask.{row_at};
 ghost use Rattle.ig_fields.specs.FieldBytes.{fields_bytes};
 ghost use Rattle.ig_fields.specs.ShowsRightly.{ShowsRightly, shown_by};
 ghost use Rattle.ig_fields.specs.ShownAnswers.{ShowsAs};
-ghost use Rattle.ig_meta.specs.Results.{result_of, IsMetaShown, found_format, found_fields, shown_bytes};
+ghost use Rattle.ig_meta.specs.Results.{done_form, result_of, IsMetaShown, found_format, found_fields, shown_bytes};
 ghost use Rattle.ig_meta.specs.TypeViews.{type_in};
 ghost use Rattle.ig_meta.specs.Laws.{ShowsInOrder};
 
@@ -75,8 +75,20 @@ fn shown_by(
                 Shown::Out(Outcome::Meta(type_in(found)))
             })
         }
-        _ => read_shown::<(), _, _>(alloc, body, at, |()| Shown::Out(Outcome::Done)),
+        Operation::Create => shown_done(alloc, body, at),
+        Operation::GetOrCreate => shown_done(alloc, body, at),
+        Operation::Destroy => shown_done(alloc, body, at),
+        Operation::PutType => shown_done(alloc, body, at),
+        _ => Err(ReadFault::NoMemory),
     }
+}
+
+/// What a result without fields shows.
+fn shown_done(alloc: Global, body: &[u8], at: usize) -> Result<Shown, ReadFault>
+    requires { at ≤ length body.now }
+    ensures { ShowsAs (shown_by done_form body.now at) result }
+{
+    read_shown::<(), _, _>(alloc, body, at, |()| Shown::Out(Outcome::Done))
 }
 
 /// The description, if there is one.
