@@ -159,3 +159,7 @@ shown_known (Err e) h = tt
 pub shown_in_order : (answer : Result Shown ReadFault) → IfOk answer IsKnown → IfOk answer ShowsInOrder
 shown_in_order (Ok shown) h = h.1
 shown_in_order (Err e) h = tt
+
+pub shown_by_code : (o : Option Operation) (operation : Operation) (body : List ℕ) (at : ℕ) (answer : Result Shown ReadFault) → Some operation ≡ o → IfSome (result_of operation) (λ form. ShowsAs (shown_by form body at) answer)
+    → IfSome (option_and_then result_of o) (λ form. ShowsAs (shown_by form body at) answer)
+shown_by_code o operation body at answer e h = subst (λ (p : Option Operation). IfSome (option_and_then result_of p) (λ form. ShowsAs (shown_by form body at) answer)) e h
