@@ -1,5 +1,5 @@
 -- Results: what is read is in order, what is written is read, and what is read fits.
-use Rattle.std.proofs.Common.{◌≡◌, ◌≢◌, ℕ, ℤ, ◌<◌, ◌≤◌, ◌^◌, List, [], ◌∷◌, ◌++◌, length, drop, Option, None, Some, Result, Ok, Err, refl, sym, ap, subst, ◌∙◌, inl, inr}
+use Rattle.std.proofs.Common.{◌≡◌, ◌≢◌, ℕ, ℤ, ◌<◌, ◌≤◌, ◌^◌, List, [], ◌∷◌, ◌++◌, length, map, drop, Option, None, Some, Result, Ok, Err, refl, sym, ap, subst, ◌∙◌, inl, inr}
 use Rattle.std.specs.Prelude.{IfOk, IfSome, IsSome}
 use Rattle.std.proofs.lemmas.Bool.{false≢true}
 use Rattle.std.specs.Option.{option_and_then}
@@ -163,3 +163,22 @@ shown_in_order (Err e) h = tt
 pub shown_by_code : (o : Option Operation) (operation : Operation) (body : List ℕ) (at : ℕ) (answer : Result Shown ReadFault) → Some operation ≡ o → IfSome (result_of operation) (λ form. ShowsAs (shown_by form body at) answer)
     → IfSome (option_and_then result_of o) (λ form. ShowsAs (shown_by form body at) answer)
 shown_by_code o operation body at answer e h = subst (λ (p : Option Operation). IfSome (option_and_then result_of p) (λ form. ShowsAs (shown_by form body at) answer)) e h
+
+-- ---- cache names, by their fields as the program reads them
+
+abbrev pub names_form : ResultForm Shown
+names_form = item_form (listed string) (map same) (λ x. Out (outcome.Names x))
+
+abbrev pub names_row : ResultForm Shown
+names_row = record { format = listed string; shown = λ x. Out (outcome.Names x) }
+
+map_same : (xs : List (List ℕ)) → map same xs ≡ xs
+map_same [] = refl
+map_same (x ∷ xs) = ap (λ (l : List (List ℕ)). x ∷ l) (map_same xs)
+
+names_same : (body : List ℕ) (r : Result (List (List ℕ)) ℕ) → shown_fields names_form body r ≡ shown_fields names_row body r
+names_same body (Ok xs) = ap (λ (l : List (List ℕ)). Ok (Out (outcome.Names l))) (map_same xs)
+names_same body (Err left) = refl
+
+pub names_shown : (body : List ℕ) (at : ℕ) (answer : Result Shown ReadFault) → ShowsAs (shown_by names_form body at) answer → ShowsAs (shown_by names_row body at) answer
+names_shown body at answer h = subst (λ (r : Result Shown ReadFault). ShowsAs r answer) (names_same body (message_of (listed string) (drop at body))) h
