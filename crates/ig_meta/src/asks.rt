@@ -162,32 +162,39 @@ fn put_fields<S: ValueOutput>(call: &Call, out: &mut S, into: &mut [u8])
         Call::Create { name } => <Text as FieldFormat>::put(name, out, into),
         Call::GetOrCreate { name } => <Text as FieldFormat>::put(name, out, into),
         Call::Destroy { cache } => <i32 as FieldFormat>::put(cache, out, into),
-        Call::TypeName { platform, type_id } => {
-            <(u8, i32) as FieldFormat>::put(&(*platform, *type_id), out, into)
-        }
+        Call::TypeName { platform, type_id } => put_type_on(platform, type_id, out, into),
         Call::SetTypeName {
             platform,
             type_id,
             name,
-        } => put_type_name(*platform, *type_id, name, out, into),
+        } => put_type_name(platform, type_id, name, out, into),
         Call::TypeOf { type_id } => <i32 as FieldFormat>::put(type_id, out, into),
         Call::PutType { meta } => <TypeFields as FieldFormat>::put(meta, out, into),
         _ => {}
     }
 }
 
+/// Puts a platform and a type.
+fn put_type_on<S: ValueOutput>(platform: &u8, type_id: &i32, out: &mut S, into: &mut [u8])
+    ensures { (out.new, into.new) ≡ S.Output.after out.old into.old
+        (fields_bytes type_name (platform.now, type_id.now)) }
+{
+    <u8 as FieldFormat>::put(platform, out, into);
+    <i32 as FieldFormat>::put(type_id, out, into);
+}
+
 /// Puts a platform, a type and its name there.
 fn put_type_name<S: ValueOutput>(
-    platform: u8,
-    type_id: i32,
+    platform: &u8,
+    type_id: &i32,
     name: &Text,
     out: &mut S,
     into: &mut [u8],
 )
     ensures { (out.new, into.new) ≡ S.Output.after out.old into.old
-        (fields_bytes (both type_name a_string) ((platform, type_id), name.now)) }
+        (fields_bytes (both type_name a_string) ((platform.now, type_id.now), name.now)) }
 {
-    <(u8, i32) as FieldFormat>::put(&(platform, type_id), out, into);
+    put_type_on(platform, type_id, out, into);
     <Text as FieldFormat>::put(name, out, into);
 }
 

@@ -12,7 +12,7 @@ pub returns-in-Destroy : goal.returns-in-Destroy
 returns-in-Destroy g c = rw c.in-Destroy.is c.put-in-Destroy.ensures
 
 pub returns-in-TypeName : goal.returns-in-TypeName
-returns-in-TypeName g c = rw c.in-TypeName.is c.put-in-TypeName.ensures
+returns-in-TypeName g c = rw c.in-TypeName.is c.put_type_on.ensures
 
 pub returns-in-SetTypeName : goal.returns-in-SetTypeName
 returns-in-SetTypeName g c = rw c.in-SetTypeName.is c.put_type_name.ensures
