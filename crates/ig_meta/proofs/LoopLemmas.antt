@@ -41,6 +41,7 @@ module _ {A B : Type 0} (same : A → A → Bool) (P : List ℕ → Field A) (Q 
     by_rest : Later n xs ys → (x : A) (r : Field B) → after_key xs n x r ≡ after_key ys n x r
     by_rest later x (Ok y) = rw (later x y.1) refl
     by_rest later x (Err left) = refl
+
     by_key : Later n xs ys → (r : Field A) → after_test xs n r ≡ after_test ys n r
     by_key later (Ok x) = by_rest later x.0 (Q x.1)
     by_key later (Err left) = refl
@@ -109,7 +110,7 @@ module _ {K X : Type 0} (R : K → K → Ordering) (o : IsTotalOrder R) where
         let new : new_key es k ≡ true = new_is k es ∙ ap (λ (b : Bool). not b) (sym absent) in
         let read : Reads es left s ≡ mapped_of (with_entries R es) (each_new_of (eq_by_cmp R) P Q (k ∷ keys_of es) left' u >>= λ xs. Ok ((k, v) ∷ xs.0, xs.1)) = rw (count, key, new, item) refl in
         let moved : each_new_of (eq_by_cmp R) P Q (k ∷ keys_of es) left' u ≡ each_new_of (eq_by_cmp R) P Q (keys_of (insert_entry R es k v)) left' u =
-          each_new (eq_by_cmp R) P Q left' (k ∷ keys_of es) (keys_of (insert_entry R es k v)) u (new_after k v es none) in
+        each_new (eq_by_cmp R) P Q left' (k ∷ keys_of es) (keys_of (insert_entry R es k v)) u (new_after k v es none) in
         ap (λ (l : List (K × X)). Reads l left' u) put
         ∙ ap (mapped_of (with_entries R (insert_entry R es k v))) (sym moved)
         ∙ sym (item_put es k v (each_new_of (eq_by_cmp R) P Q (k ∷ keys_of es) left' u))

@@ -141,9 +141,11 @@ read_known code body at answer known right = by_operation (operation_at code) kn
   by_answer : (o : Operation) (form : ResultForm Shown) → result_of o ≡ Some form → (a : Result Shown ReadFault) → ShowsRightly form body at a → IfOk a IsKnown
   by_answer o form e (Ok shown) h = subst IsKnown h.2 (shows_known o form e h.0)
   by_answer o form e (Err fault) h = tt
+
   by_form_of : (o : Operation) (row : Option (ResultForm Shown)) → result_of o ≡ row → IsSome row → IfSome row (λ form. ShowsRightly form body at answer) → IfOk answer IsKnown
   by_form_of o None e k h = absurd (false≢true k)
   by_form_of o (Some form) e k h = by_answer o form e answer h
+
   by_operation : (o : Option Operation) → IsSome (option_and_then result_of o) → IfSome (option_and_then result_of o) (λ form. ShowsRightly form body at answer) → IfOk answer IsKnown
   by_operation None k h = absurd (false≢true k)
   by_operation (Some o) k h = by_form_of o (result_of o) refl k h

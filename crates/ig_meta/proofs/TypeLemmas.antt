@@ -88,7 +88,7 @@ ordered_back t h =
     let fields : map field_of (in_key_order name_order (map field_parts t.fields)) ≡ t.fields = fields_back t.fields h.fields in
     let schemas : map schema_of (in_key_order int_cmp (map schema_parts t.schemas)) ≡ t.schemas = schemas_back t.schemas h.schemas in
     let all : with_members t (is_enum_of (enum_fields t.is_enum t.literals)) (map field_of (in_key_order name_order (map field_parts t.fields))) (literals_of (enum_fields t.is_enum t.literals)) (map schema_of (in_key_order int_cmp (map schema_parts t.schemas))) ≡ t =
-      rw (flag, literals, fields, schemas) refl in
+    rw (flag, literals, fields, schemas) refl in
     all
 
 -- ---- what is read is in order

@@ -50,12 +50,7 @@ pub fn read_result(alloc: Global, op: i16, body: &[u8], at: usize) -> Result<Sho
 }
 
 /// The same by the operation.
-fn shown_by(
-    alloc: Global,
-    operation: Operation,
-    body: &[u8],
-    at: usize,
-) -> Result<Shown, ReadFault>
+fn shown_by(alloc: Global, operation: Operation, body: &[u8], at: usize) -> Result<Shown, ReadFault>
     requires known { IsSome (result_of operation) }
     requires within { at ≤ length body.now }
     ensures { IfSome (result_of operation) (λ form. ShowsAs (shown_by form body.now at) result) }

@@ -116,8 +116,8 @@ static WRONG_ASKS: [(i16, &[u8], Seen); 13] = [
     (
         3003,
         &[
-            5, 0, 0, 0, 9, 0, 0, 0, 0, 101, 0, 0, 0, 0, 0, 2, 0, 0, 0, 7, 0, 0, 0, 0, 0, 0, 0, 7, 0,
-            0, 0,
+            5, 0, 0, 0, 9, 0, 0, 0, 0, 101, 0, 0, 0, 0, 0, 2, 0, 0, 0, 7, 0, 0, 0, 0, 0, 0, 0, 7,
+            0, 0, 0,
         ],
         Seen::Stops(27),
     ),
@@ -172,14 +172,14 @@ static WRONG_RESULTS: [(i16, &[u8], usize); 3] = [
 /// A description whose members are out of order, and in order: two fields, literals and schemas each.
 static SORTED: [(&[u8], &[u8]); 1] = [(
     &[
-        5, 0, 0, 0, 9, 0, 0, 0, 0, 101, 2, 0, 0, 0, 9, 1, 0, 0, 0, 98, 1, 0, 0, 0, 2, 0, 0, 0, 9, 1,
-        0, 0, 0, 97, 3, 0, 0, 0, 4, 0, 0, 0, 0, 2, 0, 0, 0, 2, 0, 0, 0, 0, 0, 0, 0, 255, 255, 255,
-        255, 0, 0, 0, 0,
+        5, 0, 0, 0, 9, 0, 0, 0, 0, 101, 2, 0, 0, 0, 9, 1, 0, 0, 0, 98, 1, 0, 0, 0, 2, 0, 0, 0, 9,
+        1, 0, 0, 0, 97, 3, 0, 0, 0, 4, 0, 0, 0, 0, 2, 0, 0, 0, 2, 0, 0, 0, 0, 0, 0, 0, 255, 255,
+        255, 255, 0, 0, 0, 0,
     ],
     &[
-        5, 0, 0, 0, 9, 0, 0, 0, 0, 101, 2, 0, 0, 0, 9, 1, 0, 0, 0, 97, 3, 0, 0, 0, 4, 0, 0, 0, 9, 1,
-        0, 0, 0, 98, 1, 0, 0, 0, 2, 0, 0, 0, 0, 2, 0, 0, 0, 255, 255, 255, 255, 0, 0, 0, 0, 2, 0, 0,
-        0, 0, 0, 0, 0,
+        5, 0, 0, 0, 9, 0, 0, 0, 0, 101, 2, 0, 0, 0, 9, 1, 0, 0, 0, 97, 3, 0, 0, 0, 4, 0, 0, 0, 9,
+        1, 0, 0, 0, 98, 1, 0, 0, 0, 2, 0, 0, 0, 0, 2, 0, 0, 0, 255, 255, 255, 255, 0, 0, 0, 0, 2,
+        0, 0, 0, 0, 0, 0, 0,
     ],
 )];
 
@@ -281,9 +281,8 @@ fn first_wrong_stop(alloc: Global) -> Option<usize> {
 }
 
 fn first_unsorted(alloc: Global) -> Option<usize> {
-    SORTED
-        .iter()
-        .position(|(fields, sorted)| ask_seen_as(alloc, 3003, fields, sorted) != Seen::Same)
+    SORTED.iter().position(|(fields, sorted)| ask_seen_as(alloc, 3003, fields, sorted)
+        != Seen::Same)
 }
 
 /// Every request is read and written the same; cut after any byte of its fields, or with a byte
@@ -408,9 +407,8 @@ fn first_result_with_more(alloc: Global) -> Option<usize> {
 }
 
 fn first_wrong_result_stop(alloc: Global) -> Option<usize> {
-    WRONG_RESULTS
-        .iter()
-        .position(|(op, bytes, at)| result_seen(alloc, *op, bytes) != Seen::Stops(*at))
+    WRONG_RESULTS.iter().position(|(op, bytes, at)| result_seen(alloc, *op, bytes)
+        != Seen::Stops(*at))
 }
 
 /// Results are read and written the same, as a whole and from any byte on; cut after any byte, or
