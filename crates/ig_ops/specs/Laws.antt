@@ -12,9 +12,8 @@ use Rattle.ig_caches.specs.declared.request.Shown.{Shown}
 use Rattle.ig_caches.specs.declared.request.Shown.TheVariants as shown
 use Rattle.ig_caches.specs.AnswersKind.{AnswersKind}
 use Rattle.ig_fields.specs.Format.{Fields}
-use Rattle.ig_fields.specs.FieldBytes.{FitsFields}
-use Rattle.ig_fields.specs.Ask.{row_at, Ask, ResultForm}
-use Rattle.ig_fields.specs.AsksRightly.{AsksRightly, fields_after, served, asked}
+use Rattle.ig_fields.specs.Ask.{row_at, ResultForm}
+use Rattle.ig_fields.specs.AsksRightly.{AsksRightly, served, asked}
 use Rattle.ig_fields.specs.ShowsRightly.{ShowsRightly, shown_by}
 use Rattle.ig_fields.specs.TableLaws.{FitsFilled}
 use Rattle.ig_ops.specs.Requests.{ask_of, form_of, ask_body, IsOpsCall, IsOpsRequest, profile_of, IsServed}
@@ -39,13 +38,13 @@ AsksTellApart =
     (a b : ℤ) (p q : Request) → FitsSigned w64 a → FitsSigned w64 b → FitsAsk p → FitsAsk q
     → ask_body a p ≡ ask_body b q → (a ≡ b) × (p ≡ q)
 
--- what a body that an Int32 counts asks is one of these requests, keeps to the limits, and can be served;
--- and it is written under the code that it was read under
+-- what the fields of an operation ask, in a body that an Int32 counts, is one of these requests, keeps to the
+-- limits, is written under the same operation, and can be served
 abbrev pub ReadAskFits : Type 0
 ReadAskFits =
-    (code : ℤ) (body : List ℕ) (r : Request) → length body < 2 ^ 31
-    → AsksRightly (row_at ask_of code) body (Ok r)
-    → FitsAsk r × IsServed r × (profile_of r ≡ None)
+    (o : Operation) (body : List ℕ) (r : Request) → length body < 2 ^ 31
+    → AsksRightly (ask_of o) body (Ok r)
+    → FitsAsk r × ((form_of r).operation ≡ o) × IsServed r × (profile_of r ≡ None)
 
 -- ---- results
 

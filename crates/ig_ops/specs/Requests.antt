@@ -1,6 +1,6 @@
 -- The requests on the rows of caches, on scans and on cursors: their fields, what they ask, and how they
 -- are written.
-use Rattle.std.specs.Prelude.{ℕ, ℤ, pos, negsuc, Bool, true, false, int_lt, int_le, ◌≤◌, ◌×◌, List, [], ◌∷◌, map, is_some, Option, None, Some, if◌then◌else◌}
+use Rattle.std.specs.Prelude.{◌≡◌, ℕ, ℤ, pos, negsuc, Bool, true, false, int_lt, int_le, List, [], ◌∷◌, map, is_some, Option, None, Some, if◌then◌else◌}
 use Rattle.std.specs.List.{list_any, flat_map}
 use Rattle.ig_value.specs.declared.Value.{Value}
 use Rattle.ig_value.specs.Part.{i32, i64}
@@ -64,8 +64,11 @@ cursor_fields = scalar i64
 -- ---- what isn't served
 
 -- a null key, value or wanted value
+abbrev pub null_refused : Bool → Option Profile
+null_refused null = if null then Some profile.NullItem else None
+
 abbrev pub null_among : List Value → Option Profile
-null_among values = if list_any is_null values then Some profile.NullItem else None
+null_among values = null_refused (list_any is_null values)
 
 -- a filter; else a page without room for a row; else one partition
 abbrev pub scan_refused : Bool → ℤ → ℤ → Option Profile
@@ -209,16 +212,16 @@ other_form = filled_form operation.CloseResource nothing tt
 
 abbrev pub call_form : Call → AskForm
 call_form (Get cache key) = key_form operation.Get cache key
-call_form (Put cache key value) = two_form operation.Put cache key value
-call_form (PutIfAbsent cache key value) = two_form operation.PutIfAbsent cache key value
+call_form (Put cache key v) = two_form operation.Put cache key v
+call_form (PutIfAbsent cache key v) = two_form operation.PutIfAbsent cache key v
 call_form (GetAll cache keys) = keys_form operation.GetAll cache keys
 call_form (PutAll cache pairs) = pairs_form cache pairs
-call_form (GetAndPut cache key value) = two_form operation.GetAndPut cache key value
-call_form (GetAndReplace cache key value) = two_form operation.GetAndReplace cache key value
+call_form (GetAndPut cache key v) = two_form operation.GetAndPut cache key v
+call_form (GetAndReplace cache key v) = two_form operation.GetAndReplace cache key v
 call_form (GetAndRemove cache key) = key_form operation.GetAndRemove cache key
-call_form (GetAndPutIfAbsent cache key value) = two_form operation.GetAndPutIfAbsent cache key value
-call_form (Replace cache key value) = two_form operation.Replace cache key value
-call_form (ReplaceIfEquals cache key wanted value) = three_form operation.ReplaceIfEquals cache key wanted value
+call_form (GetAndPutIfAbsent cache key v) = two_form operation.GetAndPutIfAbsent cache key v
+call_form (Replace cache key v) = two_form operation.Replace cache key v
+call_form (ReplaceIfEquals cache key wanted v) = three_form operation.ReplaceIfEquals cache key wanted v
 call_form (ContainsKey cache key) = key_form operation.ContainsKey cache key
 call_form (ContainsKeys cache keys) = keys_form operation.ContainsKeys cache keys
 call_form (Clear cache) = cache_form operation.Clear cache
@@ -264,16 +267,16 @@ IsOpsRequest _ = Unit {0}
 -- the keys, values and wanted values of a call, in the order of its fields
 abbrev pub values_of : Call → List Value
 values_of (Get _ key) = key ∷ []
-values_of (Put _ key value) = key ∷ value ∷ []
-values_of (PutIfAbsent _ key value) = key ∷ value ∷ []
+values_of (Put _ key v) = key ∷ v ∷ []
+values_of (PutIfAbsent _ key v) = key ∷ v ∷ []
 values_of (GetAll _ keys) = keys
 values_of (PutAll _ pairs) = flat_map pair_values pairs
-values_of (GetAndPut _ key value) = key ∷ value ∷ []
-values_of (GetAndReplace _ key value) = key ∷ value ∷ []
+values_of (GetAndPut _ key v) = key ∷ v ∷ []
+values_of (GetAndReplace _ key v) = key ∷ v ∷ []
 values_of (GetAndRemove _ key) = key ∷ []
-values_of (GetAndPutIfAbsent _ key value) = key ∷ value ∷ []
-values_of (Replace _ key value) = key ∷ value ∷ []
-values_of (ReplaceIfEquals _ key wanted value) = key ∷ wanted ∷ value ∷ []
+values_of (GetAndPutIfAbsent _ key v) = key ∷ v ∷ []
+values_of (Replace _ key v) = key ∷ v ∷ []
+values_of (ReplaceIfEquals _ key wanted v) = key ∷ wanted ∷ v ∷ []
 values_of (ContainsKey _ key) = key ∷ []
 values_of (ContainsKeys _ keys) = keys
 values_of (ClearKey _ key) = key ∷ []

@@ -1,20 +1,22 @@
 //! Reading the fields of requests, by their shape.
 
-ghost use Rattle.std.specs.Prelude.{◌≡◌, ◌≤◌, ℕ, ℤ, List, length, Some};
+ghost use Rattle.std.specs.Prelude.{◌≡◌, ◌≤◌, ℕ, ℤ, List, [], ◌∷◌, length, Some, Result};
 ghost use Rattle.std.specs.List.{list_any, flat_map};
 ghost use Rattle.ig_value.specs.declared.Value.{Value as a_value};
 ghost use Rattle.ig_caches.specs.declared.call.Call.{Call as a_call};
 ghost use Rattle.ig_caches.specs.declared.request.Request.{Request as a_request};
-ghost use Rattle.ig_caches.specs.declared.request.Request.TheVariants.{Scan as a_scan};
+ghost use Rattle.ig_caches.specs.declared.request.Request.TheVariants.{Scan as a_scan, Run as a_run};
+ghost use Rattle.ig_caches.specs.declared.call.Call.TheVariants.{PutAll as a_put_all};
 ghost use Rattle.ig_fields.specs.ReadingFields.{is_null as null_test};
-ghost use Rattle.ig_fields.specs.AsksRightly.{asked};
+ghost use Rattle.ig_wire.specs.declared.AskFault.{AskFault as a_fault};
+ghost use Rattle.ig_fields.specs.AsksRightly.{asked, served};
 ghost use Rattle.ig_fields.specs.AskAnswers.{AnswersAs, Makes, unless_refused};
-ghost use Rattle.ig_ops.specs.Requests.{pair_values, scan_refused, cache_ask, key_ask, two_ask, three_ask, keys_ask, pairs_ask, modes_ask, scan_ask, cursor_ask};
+ghost use Rattle.ig_ops.specs.Requests.{pair_values, null_refused, null_among, scan_refused, cache_ask, key_ask, two_ask, three_ask, keys_ask, pairs_ask, modes_ask, scan_ask, cursor_ask};
 
 use crate::pair_fields::PairFields;
 use ig_base::{Items, Octets};
 use ig_caches::{Call, Pair, Request};
-use ig_fields::{UnlessNull, ask_fields, is_null};
+use ig_fields::{UnlessNull, ask_fields, is_null, read_asked};
 use ig_value::Value;
 use ig_wire::{AskFault, Profile};
 use std::alloc::Global;
@@ -76,6 +78,32 @@ pub(crate) fn ask_key<C: FnOnce((i32, Value)) -> Call>(
     Ok(Request::Run(call((cache, key))))
 }
 
+/// Whether one of the two is null.
+fn is_null_among_two(key: &Value, value: &Value) -> bool
+    ensures { result ≡ list_any null_test (key.now ∷ value.now ∷ []) }
+{
+    is_null(key) || is_null(value)
+}
+
+/// Whether one of the three is null.
+fn is_null_among_three(key: &Value, wanted: &Value, value: &Value) -> bool
+    ensures { result ≡ list_any null_test (key.now ∷ wanted.now ∷ value.now ∷ []) }
+{
+    is_null(key) || is_null_among_two(wanted, value)
+}
+
+/// The request to run the call, unless one of its keys and values is null.
+fn run_unless(null: bool, call: Call) -> Result<Request, AskFault>
+    ensures { (expected : Result a_request a_fault) → expected ≡ served (a_run call) (null_refused null)
+        → AnswersAs expected result }
+{
+    if null {
+        drop(call);
+        return Err(AskFault::Profile(Profile::NullItem));
+    }
+    Ok(Request::Run(call))
+}
+
 /// A request with a key and a value, or a wanted value.
 pub(crate) fn ask_two<C: FnOnce((i32, Value, Value)) -> Call>(
     alloc: Global,
@@ -88,13 +116,8 @@ pub(crate) fn ask_two<C: FnOnce((i32, Value, Value)) -> Call>(
         → AnswersAs (asked (Some (two_ask f)) body.now) result }
 {
     let ((cache, _), (key, value)) = ask_fields::<TwoFields>(alloc, body)?;
-    if is_null(&key) {
-        return Err(AskFault::Profile(Profile::NullItem));
-    }
-    if is_null(&value) {
-        return Err(AskFault::Profile(Profile::NullItem));
-    }
-    Ok(Request::Run(call((cache, key, value))))
+    let null = is_null_among_two(&key, &value);
+    run_unless(null, call((cache, key, value)))
 }
 
 /// A request with a key, a wanted value and a value.
@@ -110,23 +133,15 @@ pub(crate) fn ask_three<C: FnOnce((i32, Value, Value, Value)) -> Call>(
         → AnswersAs (asked (Some (three_ask f)) body.now) result }
 {
     let ((cache, _), (key, (wanted, value))) = ask_fields::<ThreeFields>(alloc, body)?;
-    if is_null(&key) {
-        return Err(AskFault::Profile(Profile::NullItem));
-    }
-    if is_null(&wanted) {
-        return Err(AskFault::Profile(Profile::NullItem));
-    }
-    if is_null(&value) {
-        return Err(AskFault::Profile(Profile::NullItem));
-    }
-    Ok(Request::Run(call((cache, key, wanted, value))))
+    let null = is_null_among_three(&key, &wanted, &value);
+    run_unless(null, call((cache, key, wanted, value)))
 }
 
 /// Whether one of the values is null.
 fn any_null(values: &[Value]) -> bool
     ensures { result ≡ list_any null_test values.now }
 {
-    values.iter().any(is_null)
+    values.iter().any(|value| is_null(value))
 }
 
 /// Whether one of the keys and values is null.
@@ -156,16 +171,24 @@ pub(crate) fn ask_keys<C: FnOnce((i32, Items<Value>)) -> Call>(
     Ok(Request::Run(call((cache, keys))))
 }
 
+/// The call that sets keys with their values, unless one of them is null.
+fn pairs_request(cache: i32, pairs: Items<Pair>) -> Result<Request, Profile>
+    ensures { result ≡ unless_refused (a_run (a_put_all cache pairs)) (null_among (flat_map pair_values pairs)) }
+{
+    if any_null_pair(pairs.as_slice()) {
+        return Err(Profile::NullItem);
+    }
+    Ok(Request::Run(Call::PutAll { cache, pairs }))
+}
+
 /// The request that sets keys with their values.
 pub(crate) fn ask_pairs(alloc: Global, body: &[u8]) -> Result<Request, AskFault>
     requires { 10 ≤ length body.now }
     ensures { AnswersAs (asked (Some pairs_ask) body.now) result }
 {
-    let ((cache, _), pairs) = ask_fields::<PairsFields>(alloc, body)?;
-    if any_null_pair(pairs.as_slice()) {
-        return Err(AskFault::Profile(Profile::NullItem));
-    }
-    Ok(Request::Run(Call::PutAll { cache, pairs }))
+    read_asked::<PairsFields, Request, _>(alloc, body, |((cache, _), pairs)| pairs_request(
+        cache, pairs,
+    ))
 }
 
 /// The request for the number of rows.
