@@ -7,8 +7,8 @@ ghost use Rattle.ig_ops.specs.Results.{outcome_filled, shown_bytes};
 use crate::pair_fields::PairFields;
 use crate::put_page::{put_page, put_truth};
 use ig_caches::{Outcome, Shown};
-use ig_encode::{Output, ValueOutput, put_i64};
-use ig_fields::{Message, put_items};
+use ig_encode::{Output, ValueOutput};
+use ig_fields::{FieldFormat, Message, put_items};
 
 /// A result as a message. Of a result that isn't one of this crate it has no bytes.
 #[derive(Drop)]
@@ -36,7 +36,7 @@ fn put_outcome<S: ValueOutput>(outcome: &Outcome, out: &mut S, into: &mut [u8])
         Outcome::Found(value) => out.put_value(into, value),
         Outcome::Yes(yes) => put_truth(*yes, out, into),
         Outcome::Pairs(rows) => put_items::<PairFields, S>(rows.as_slice(), out, into),
-        Outcome::Count(count) => put_i64(*count, out, into),
+        Outcome::Count(count) => <i64 as FieldFormat>::put(count, out, into),
         _ => {}
     }
 }
