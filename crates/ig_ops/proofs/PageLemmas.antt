@@ -38,7 +38,7 @@ page_split cursor rows more row =
 
 -- what stands at an offset past a prefix
 drop_past : (p s : List ℕ) (from before : ℕ) → before ≡ length p → before ≤ from → drop from (p ++ s) ≡ drop (from - before) s
-drop_past [] s from before e le = rw e refl
+drop_past [] s from before e le = let same : from ≡ from - before = omega (arith, e) in ap (λ (n : ℕ). drop n s) same
 drop_past (x ∷ p) s zero before e le = absurd (omega (arith, e, le))
 drop_past (x ∷ p) s (suc from) zero e le = absurd (omega (arith, e))
 drop_past (x ∷ p) s (suc from) (suc before) e le = drop_past p s from before (omega (arith, e)) (omega (arith, le))

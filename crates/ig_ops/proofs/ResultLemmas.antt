@@ -118,8 +118,7 @@ results_tell_apart o form x y known first second fx fy e =
 pub read_result_fits : ReadResultFits
 read_result_fits o form body at x known small (fields, spelled, shows) =
     let holds = form_holds o form known in
-    let fit = fields_fit form.format (drop at body) fields (omega (arith, small, length-drop at body)) spelled in
-    (
+    let fit = fields_fit form.format (drop at body) fields (omega (arith, small, length-drop at body)) spelled in (
       subst IsOpsShown shows (holds.known fields),
       record { fields = fields; shows = shows },
       subst FitsShown shows (subst FitsFilled (sym (holds.filled fields)) fit),

@@ -72,7 +72,15 @@ fn put_call<S: ValueOutput>(id: i64, call: &Call, out: &mut S, into: &mut [u8])
             put_key(Operation::GetAndRemove, id, *cache, key, out, into)
         }
         Call::GetAndPutIfAbsent { cache, key, value } => {
-            put_two(Operation::GetAndPutIfAbsent, id, *cache, key, value, out, into)
+            put_two(
+                Operation::GetAndPutIfAbsent,
+                id,
+                *cache,
+                key,
+                value,
+                out,
+                into,
+            )
         }
         Call::Replace { cache, key, value } => {
             put_two(Operation::Replace, id, *cache, key, value, out, into)
@@ -82,12 +90,28 @@ fn put_call<S: ValueOutput>(id: i64, call: &Call, out: &mut S, into: &mut [u8])
             key,
             wanted,
             value,
-        } => put_three(Operation::ReplaceIfEquals, id, *cache, key, wanted, value, out, into),
+        } => put_three(
+            Operation::ReplaceIfEquals,
+            id,
+            *cache,
+            key,
+            wanted,
+            value,
+            out,
+            into,
+        ),
         Call::ContainsKey { cache, key } => {
             put_key(Operation::ContainsKey, id, *cache, key, out, into)
         }
         Call::ContainsKeys { cache, keys } => {
-            put_keys(Operation::ContainsKeys, id, *cache, keys.as_slice(), out, into)
+            put_keys(
+                Operation::ContainsKeys,
+                id,
+                *cache,
+                keys.as_slice(),
+                out,
+                into,
+            )
         }
         Call::Clear { cache } => put_cache(Operation::Clear, id, *cache, out, into),
         Call::ClearKey { cache, key } => put_key(Operation::ClearKey, id, *cache, key, out, into),
@@ -96,10 +120,25 @@ fn put_call<S: ValueOutput>(id: i64, call: &Call, out: &mut S, into: &mut [u8])
         }
         Call::RemoveKey { cache, key } => put_key(Operation::RemoveKey, id, *cache, key, out, into),
         Call::RemoveIfEquals { cache, key, wanted } => {
-            put_two(Operation::RemoveIfEquals, id, *cache, key, wanted, out, into)
+            put_two(
+                Operation::RemoveIfEquals,
+                id,
+                *cache,
+                key,
+                wanted,
+                out,
+                into,
+            )
         }
         Call::RemoveKeys { cache, keys } => {
-            put_keys(Operation::RemoveKeys, id, *cache, keys.as_slice(), out, into)
+            put_keys(
+                Operation::RemoveKeys,
+                id,
+                *cache,
+                keys.as_slice(),
+                out,
+                into,
+            )
         }
         Call::RemoveAll { cache } => put_cache(Operation::RemoveAll, id, *cache, out, into),
         Call::Size { cache, modes } => put_modes(id, *cache, modes.as_slice(), out, into),
@@ -189,13 +228,7 @@ fn put_keys<S: ValueOutput>(
     put_items::<Value, S>(keys, out, into);
 }
 
-fn put_pairs<S: ValueOutput>(
-    id: i64,
-    cache: i32,
-    pairs: &[Pair],
-    out: &mut S,
-    into: &mut [u8],
-)
+fn put_pairs<S: ValueOutput>(id: i64, cache: i32, pairs: &[Pair], out: &mut S, into: &mut [u8])
     ensures { (out.new, into.new)
         ≡ S.Output.after out.old into.old (form_body id (pairs_form cache pairs.now)) }
 {

@@ -186,9 +186,11 @@ pub(crate) fn ask_pairs(alloc: Global, body: &[u8]) -> Result<Request, AskFault>
     requires { 10 ≤ length body.now }
     ensures { AnswersAs (asked (Some pairs_ask) body.now) result }
 {
-    read_asked::<PairsFields, Request, _>(alloc, body, |((cache, _), pairs)| pairs_request(
-        cache, pairs,
-    ))
+    read_asked::<PairsFields, Request, _>(
+        alloc,
+        body,
+        |((cache, _), pairs)| pairs_request(cache, pairs),
+    )
 }
 
 /// The request for the number of rows.
@@ -202,12 +204,7 @@ pub(crate) fn ask_modes(alloc: Global, body: &[u8]) -> Result<Request, AskFault>
 }
 
 /// The request for a scan's first page, unless it has a filter, no room for a row, or a partition.
-fn scan_request(
-    cache: i32,
-    filtered: bool,
-    page: i32,
-    partition: i32,
-) -> Result<Request, Profile>
+fn scan_request(cache: i32, filtered: bool, page: i32, partition: i32) -> Result<Request, Profile>
     ensures { result ≡ unless_refused (a_scan cache page) (scan_refused filtered page partition) }
 {
     if filtered {

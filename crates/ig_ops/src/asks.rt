@@ -47,72 +47,81 @@ fn read_asked_by(alloc: Global, operation: Operation, body: &[u8]) -> Result<Req
 {
     match operation {
         Operation::Get => ask_key(alloc, body, |(cache, key)| Call::Get { cache, key }),
-        Operation::Put => ask_two(alloc, body, |(cache, key, value)| Call::Put {
-            cache,
-            key,
-            value,
-        }),
-        Operation::PutIfAbsent => ask_two(alloc, body, |(cache, key, value)| Call::PutIfAbsent {
-            cache,
-            key,
-            value,
-        }),
+        Operation::Put => ask_two(
+            alloc,
+            body,
+            |(cache, key, value)| Call::Put { cache, key, value },
+        ),
+        Operation::PutIfAbsent => ask_two(
+            alloc,
+            body,
+            |(cache, key, value)| Call::PutIfAbsent { cache, key, value },
+        ),
         Operation::GetAll => ask_keys(alloc, body, |(cache, keys)| Call::GetAll { cache, keys }),
         Operation::PutAll => ask_pairs(alloc, body),
-        Operation::GetAndPut => ask_two(alloc, body, |(cache, key, value)| Call::GetAndPut {
-            cache,
-            key,
-            value,
-        }),
-        Operation::GetAndReplace => ask_two(alloc, body, |(cache, key, value)| Call::GetAndReplace {
-            cache,
-            key,
-            value,
-        }),
-        Operation::GetAndRemove => ask_key(alloc, body, |(cache, key)| Call::GetAndRemove {
-            cache,
-            key,
-        }),
-        Operation::GetAndPutIfAbsent => ask_two(alloc, body, |(cache, key, value)| Call::GetAndPutIfAbsent {
-            cache,
-            key,
-            value,
-        }),
-        Operation::Replace => ask_two(alloc, body, |(cache, key, value)| Call::Replace {
-            cache,
-            key,
-            value,
-        }),
-        Operation::ReplaceIfEquals => ask_three(alloc, body, |(cache, key, wanted, value)| Call::ReplaceIfEquals {
-            cache,
-            key,
-            wanted,
-            value,
-        }),
-        Operation::ContainsKey => ask_key(alloc, body, |(cache, key)| Call::ContainsKey {
-            cache,
-            key,
-        }),
-        Operation::ContainsKeys => ask_keys(alloc, body, |(cache, keys)| Call::ContainsKeys {
-            cache,
-            keys,
-        }),
+        Operation::GetAndPut => ask_two(
+            alloc,
+            body,
+            |(cache, key, value)| Call::GetAndPut { cache, key, value },
+        ),
+        Operation::GetAndReplace => ask_two(
+            alloc,
+            body,
+            |(cache, key, value)| Call::GetAndReplace { cache, key, value },
+        ),
+        Operation::GetAndRemove => ask_key(
+            alloc,
+            body,
+            |(cache, key)| Call::GetAndRemove { cache, key },
+        ),
+        Operation::GetAndPutIfAbsent => ask_two(
+            alloc,
+            body,
+            |(cache, key, value)| Call::GetAndPutIfAbsent { cache, key, value },
+        ),
+        Operation::Replace => ask_two(
+            alloc,
+            body,
+            |(cache, key, value)| Call::Replace { cache, key, value },
+        ),
+        Operation::ReplaceIfEquals => ask_three(
+            alloc,
+            body,
+            |(cache, key, wanted, value)| Call::ReplaceIfEquals {
+                cache,
+                key,
+                wanted,
+                value,
+            },
+        ),
+        Operation::ContainsKey => ask_key(
+            alloc,
+            body,
+            |(cache, key)| Call::ContainsKey { cache, key },
+        ),
+        Operation::ContainsKeys => ask_keys(
+            alloc,
+            body,
+            |(cache, keys)| Call::ContainsKeys { cache, keys },
+        ),
         Operation::Clear => ask_cache(alloc, body, |cache| Call::Clear { cache }),
         Operation::ClearKey => ask_key(alloc, body, |(cache, key)| Call::ClearKey { cache, key }),
-        Operation::ClearKeys => ask_keys(alloc, body, |(cache, keys)| Call::ClearKeys {
-            cache,
-            keys,
-        }),
+        Operation::ClearKeys => ask_keys(
+            alloc,
+            body,
+            |(cache, keys)| Call::ClearKeys { cache, keys },
+        ),
         Operation::RemoveKey => ask_key(alloc, body, |(cache, key)| Call::RemoveKey { cache, key }),
-        Operation::RemoveIfEquals => ask_two(alloc, body, |(cache, key, wanted)| Call::RemoveIfEquals {
-            cache,
-            key,
-            wanted,
-        }),
-        Operation::RemoveKeys => ask_keys(alloc, body, |(cache, keys)| Call::RemoveKeys {
-            cache,
-            keys,
-        }),
+        Operation::RemoveIfEquals => ask_two(
+            alloc,
+            body,
+            |(cache, key, wanted)| Call::RemoveIfEquals { cache, key, wanted },
+        ),
+        Operation::RemoveKeys => ask_keys(
+            alloc,
+            body,
+            |(cache, keys)| Call::RemoveKeys { cache, keys },
+        ),
         Operation::RemoveAll => ask_cache(alloc, body, |cache| Call::RemoveAll { cache }),
         Operation::GetSize => ask_modes(alloc, body),
         Operation::Scan => ask_scan(alloc, body),

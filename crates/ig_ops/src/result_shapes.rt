@@ -41,9 +41,12 @@ pub(crate) fn read_rows(alloc: Global, body: &[u8], at: usize) -> Result<Shown, 
     requires { at ≤ length body.now }
     ensures { ShowsAs (shown_by rows_result body.now at) result }
 {
-    read_shown::<Items<PairFields>, Shown, _>(alloc, body, at, |rows| Shown::Out(Outcome::Pairs(
-        rows,
-    )))
+    read_shown::<Items<PairFields>, Shown, _>(
+        alloc,
+        body,
+        at,
+        |rows| Shown::Out(Outcome::Pairs(rows)),
+    )
 }
 
 pub(crate) fn read_count(alloc: Global, body: &[u8], at: usize) -> Result<Shown, ReadFault>
@@ -57,22 +60,30 @@ pub(crate) fn read_first_page(alloc: Global, body: &[u8], at: usize) -> Result<S
     requires { at ≤ length body.now }
     ensures { ShowsAs (shown_by first_page_result body.now at) result }
 {
-    read_shown::<(i64, PageFields), Shown, _>(alloc, body, at, |(cursor, (rows, more))| Shown::Page(
-        Page {
+    read_shown::<(i64, PageFields), Shown, _>(
+        alloc,
+        body,
+        at,
+        |(cursor, (rows, more))| Shown::Page(Page {
             cursor: Some(cursor),
             rows,
             more,
-        },
-    ))
+        }),
+    )
 }
 
 pub(crate) fn read_next_page(alloc: Global, body: &[u8], at: usize) -> Result<Shown, ReadFault>
     requires { at ≤ length body.now }
     ensures { ShowsAs (shown_by next_page_result body.now at) result }
 {
-    read_shown::<PageFields, Shown, _>(alloc, body, at, |(rows, more)| Shown::Page(Page {
-        cursor: None,
-        rows,
-        more,
-    }))
+    read_shown::<PageFields, Shown, _>(
+        alloc,
+        body,
+        at,
+        |(rows, more)| Shown::Page(Page {
+            cursor: None,
+            rows,
+            more,
+        }),
+    )
 }

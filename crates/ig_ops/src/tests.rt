@@ -54,9 +54,7 @@ static ASKS: [(&[i16], &[u8], &[usize]); 13] = [
     ),
     (
         &[1001],
-        &[
-            0xB9, 5, 0x33, 0, 0, 3, 1, 0, 0, 0, 3, 2, 0, 0, 0,
-        ],
+        &[0xB9, 5, 0x33, 0, 0, 3, 1, 0, 0, 0, 3, 2, 0, 0, 0],
         &[0, 0, 0, 0, 4, 5, 6, 6, 6, 6, 10, 11, 11, 11, 11],
     ),
     (
@@ -85,9 +83,7 @@ static ASKS: [(&[i16], &[u8], &[usize]); 13] = [
     ),
     (
         &[1004],
-        &[
-            0xB9, 5, 0x33, 0, 0, 2, 0, 0, 0, 8, 1, 1, 2, 8, 1, 1, 3,
-        ],
+        &[0xB9, 5, 0x33, 0, 0, 2, 0, 0, 0, 8, 1, 1, 2, 8, 1, 1, 3],
         &[0, 0, 0, 0, 4, 5, 5, 5, 5, 9, 10, 11, 12, 13, 14, 15, 16],
     ),
     (
@@ -98,9 +94,7 @@ static ASKS: [(&[i16], &[u8], &[usize]); 13] = [
     (&[1013, 1019], &[255, 255, 255, 255, 0], &[0, 0, 0, 0, 4]),
     (
         &[2000],
-        &[
-            0xB9, 5, 0x33, 0, 0, 101, 2, 0, 0, 0, 255, 255, 255, 255, 0,
-        ],
+        &[0xB9, 5, 0x33, 0, 0, 101, 2, 0, 0, 0, 255, 255, 255, 255, 0],
         &[0, 0, 0, 0, 4, 5, 6, 6, 6, 6, 10, 10, 10, 10, 14],
     ),
     (
@@ -123,10 +117,26 @@ static OTHER_ASKS: [(i16, &[u8], Seen); 24] = [
     (1101, &[0, 0, 0, 0], Seen::NotMine),
     (-1, &[], Seen::NotMine),
     (1021, &[7, 0, 0, 0, 0], Seen::NotMine),
-    (1000, &[7, 0, 0, 0, 0, 101], Seen::Refused(Profile::NullItem)),
-    (1001, &[7, 0, 0, 0, 0, 101, 8, 1], Seen::Refused(Profile::NullItem)),
-    (1001, &[7, 0, 0, 0, 0, 8, 1, 101], Seen::Refused(Profile::NullItem)),
-    (1017, &[7, 0, 0, 0, 0, 8, 1, 101], Seen::Refused(Profile::NullItem)),
+    (
+        1000,
+        &[7, 0, 0, 0, 0, 101],
+        Seen::Refused(Profile::NullItem),
+    ),
+    (
+        1001,
+        &[7, 0, 0, 0, 0, 101, 8, 1],
+        Seen::Refused(Profile::NullItem),
+    ),
+    (
+        1001,
+        &[7, 0, 0, 0, 0, 8, 1, 101],
+        Seen::Refused(Profile::NullItem),
+    ),
+    (
+        1017,
+        &[7, 0, 0, 0, 0, 8, 1, 101],
+        Seen::Refused(Profile::NullItem),
+    ),
     (
         1010,
         &[7, 0, 0, 0, 0, 8, 1, 101, 8, 1],
@@ -164,7 +174,9 @@ static OTHER_ASKS: [(i16, &[u8], Seen); 24] = [
     ),
     (
         2000,
-        &[7, 0, 0, 0, 0, 101, 255, 255, 255, 255, 255, 255, 255, 255, 0],
+        &[
+            7, 0, 0, 0, 0, 101, 255, 255, 255, 255, 255, 255, 255, 255, 0,
+        ],
         Seen::Refused(Profile::PageSize),
     ),
     (
@@ -188,11 +200,7 @@ static OTHER_ASKS: [(i16, &[u8], Seen); 24] = [
 static RESULTS: [(&[i16], &[u8], &[usize]); 11] = [
     (&[1000, 1005, 1006, 1007, 1008], &[101], &[0]),
     (&[1000], &[3, 2, 0, 0, 0], &[0, 1, 1, 1, 1]),
-    (
-        &[1001, 1004, 1013, 1014, 1015, 1018, 1019, 0],
-        &[],
-        &[],
-    ),
+    (&[1001, 1004, 1013, 1014, 1015, 1018, 1019, 0], &[], &[]),
     (&[1002, 1009, 1010, 1011, 1012, 1016, 1017], &[0], &[0]),
     (&[1002, 1009, 1010, 1011, 1012, 1016, 1017], &[1], &[0]),
     (&[1003], &[0, 0, 0, 0], &[0, 0, 0, 0]),
@@ -297,7 +305,8 @@ fn ask_holds(alloc: Global, op: i16, fields: &[u8], cuts: &[usize]) -> bool {
         }
     }
     let (longer, len) = with_one_more(fields);
-    ask_seen(alloc, op, fields) == Seen::Same && len <= ROOM
+    ask_seen(alloc, op, fields) == Seen::Same
+        && len <= ROOM
         && ask_seen(alloc, op, &longer[..len]) == Seen::Stops(fields.len())
 }
 
@@ -401,7 +410,8 @@ fn page_is(shown: &Shown, from: usize, bytes: &[u8]) -> bool
     let mut room = [0u8; ROOM];
     let filled = page_part(page.cursor, rows, page.more, from as u64, &mut room);
     page_len(page.cursor, rows, page.more) == bytes.len() as u128
-        && filled <= ROOM && &room[..filled] == &bytes[from..]
+        && filled <= ROOM
+        && &room[..filled] == &bytes[from..]
         && page_goes_on(page, from, bytes)
 }
 
@@ -428,7 +438,8 @@ fn result_holds(alloc: Global, op: i16, bytes: &[u8], cuts: &[usize]) -> bool {
         }
     }
     let (longer, len) = with_one_more(bytes);
-    result_seen(alloc, op, bytes) == Seen::Same && len <= ROOM
+    result_seen(alloc, op, bytes) == Seen::Same
+        && len <= ROOM
         && result_seen(alloc, op, &longer[..len]) == Seen::Stops(bytes.len())
 }
 
@@ -439,9 +450,8 @@ fn first_wrong_result(alloc: Global) -> Option<usize> {
 }
 
 fn first_wrong_stop(alloc: Global) -> Option<usize> {
-    WRONG_RESULTS
-        .iter()
-        .position(|(op, bytes, at)| result_seen(alloc, *op, bytes) != Seen::Stops(*at))
+    WRONG_RESULTS.iter().position(|(op, bytes, at)| result_seen(alloc, *op, bytes)
+        != Seen::Stops(*at))
 }
 
 /// Results are read and written the same, as a whole and from any byte on; cut after any byte, or with a
