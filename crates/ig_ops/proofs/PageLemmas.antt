@@ -41,7 +41,9 @@ drop_past : (p s : List ℕ) (from before : ℕ) → before ≡ length p → bef
 drop_past [] s from before e le = let same : from ≡ from - before = omega (arith, e) in ap (λ (n : ℕ). drop n s) same
 drop_past (x ∷ p) s zero before e le = absurd (omega (arith, e, le))
 drop_past (x ∷ p) s (suc from) zero e le = absurd (omega (arith, e))
-drop_past (x ∷ p) s (suc from) (suc before) e le = drop_past p s from before (omega (arith, e)) (omega (arith, le))
+drop_past (x ∷ p) s (suc from) (suc before) e le =
+    let same : from - before ≡ suc from - suc before = omega arith in
+    drop_past p s from before (omega (arith, e)) (omega (arith, le)) ∙ ap (λ (n : ℕ). drop n s) same
 
 module _ (cursor : Option ℤ) (rows : List Pair) (more : Bool) (mark : PageMark) where
   -- from the mark on
