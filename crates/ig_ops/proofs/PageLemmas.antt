@@ -1,5 +1,5 @@
 -- The bytes of pages, from a row on.
-use Rattle.std.proofs.Common.{◌≡◌, ℕ, zero, suc, ◌+◌, ◌-◌, ◌≤◌, ◌<◌, ℤ, pos, Bool, List, [], ◌∷◌, ◌++◌, map, length, take, drop, Option, None, Some, refl, sym, ap, subst, ◌∙◌, arith, append_assoc, length-append}
+use Rattle.std.proofs.Common.{◌≡◌, ℕ, zero, suc, ◌+◌, ◌-◌, ◌≤◌, ◌<◌, ℤ, pos, Bool, List, [], ◌∷◌, ◌++◌, map, length, take, drop, Option, None, Some, refl, sym, ap, subst, ◌∙◌, arith, append_assoc, length-append, length-drop}
 use Rattle.std.specs.Int.{w32}
 use Rattle.std.specs.List.{flat_map}
 use Rattle.std.proofs.lemmas.List.{take-append-drop, drop_at}
@@ -44,6 +44,16 @@ drop_past (x ∷ p) s (suc from) zero e le = absurd (omega (arith, e))
 drop_past (x ∷ p) s (suc from) (suc before) e le =
     let same : from - before ≡ suc from - suc before = omega arith in
     drop_past p s from before (omega (arith, e)) (omega (arith, le)) ∙ ap (λ (n : ℕ). drop n s) same
+
+-- all of the items
+take_all : (xs : List Pair) (n : ℕ) → n ≡ length xs → take n xs ≡ xs
+take_all [] n e = rw e refl
+take_all (x ∷ xs) zero e = absurd (omega (arith, e))
+take_all (x ∷ xs) (suc n) e = ap (λ (l : List Pair). x ∷ l) (take_all xs n (omega (arith, e)))
+
+-- the rows from one on
+pub rows_from : (rows : List Pair) (row : ℕ) → take (length rows - row) (drop row rows) ≡ drop row rows
+rows_from rows row = take_all (drop row rows) (length rows - row) (omega (arith, length-drop row rows))
 
 module _ (cursor : Option ℤ) (rows : List Pair) (more : Bool) (mark : PageMark) where
   -- from the mark on
