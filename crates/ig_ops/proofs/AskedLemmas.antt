@@ -1,13 +1,12 @@
 -- What the fields of a request ask, by what reading them gave.
-use Rattle.std.proofs.Common.{◌≡◌, ℕ, ◌≤◌, Bool, true, false, List, [], ◌∷◌, length, Option, None, Some, Result, Ok, Err, refl, sym, ap, subst, ◌∙◌}
+use Rattle.std.proofs.Common.{◌≡◌, ℕ, ◌≤◌, Bool, false, List, [], ◌∷◌, length, Option, None, Some, Result, Ok, Err, refl, ap, subst, ◌∙◌}
 use Rattle.std.specs.Prelude.{◌||◌}
+use Rattle.std.proofs.Math.Bool.{or_assoc}
 use Rattle.std.specs.List.{list_any, flat_map}
 use Rattle.std.specs.Option.{option_and_then}
 use Rattle.ig_base.specs.Numbers.{AreBytes}
-use Rattle.ig_wire.specs.Fields.{frame_place}
 use Rattle.ig_wire.specs.declared.Operation.{Operation}
 use Rattle.ig_wire.specs.declared.AskFault.{AskFault}
-use Rattle.ig_wire.specs.declared.AskFault.TheVariants as fault
 use Rattle.ig_wire.specs.declared.Profile.{Profile}
 use Rattle.ig_caches.specs.declared.call.Pair.{Pair}
 use Rattle.ig_caches.specs.declared.call.Call.{Call}
@@ -20,15 +19,6 @@ use Rattle.ig_fields.specs.AsksRightly.{AsksRightly, fields_after, served, asked
 use Rattle.ig_fields.specs.AskAnswers.{AnswersAs, placed_in}
 use Rattle.ig_fields.proofs.AskLemmas.{answer_is_right}
 use Rattle.ig_ops.specs.Requests.{null_refused, pair_values, ask_of}
-
-pub or_false : (b : Bool) → b ≡ (b || false)
-or_false true = refl
-or_false false = refl
-
--- an error, as the answer to another request
-abbrev fault_of : {X A : Type 0} → Result X AskFault → Result A AskFault
-fault_of (Ok x) = Err fault.NotMine
-fault_of (Err e) = Err e
 
 served_as : {A : Type 0} (request : A) (profile : Option Profile) → AnswersAs (served request profile) (served request profile)
 served_as request None = refl
@@ -46,19 +36,6 @@ module _ {A : Type 0} (ask : Ask A) (body : List ℕ) where
   read_served x answer e is =
       rw (asks (message_of ask.format (fields_after body)) x e, is) (served_as (ask.request x) (ask.profile x))
 
-  fails : (r : Result (Fields ask.format) ℕ) (e : AskFault) → AnswersAs {A = Fields ask.format} (placed_in body r) (Err e) → AnswersAs (asked_fields ask body r) (Err e)
-  fails r fault.NoMemory h = tt
-  fails (Ok x) fault.NotMine h = absurd cc
-  fails (Ok x) (fault.Unread place) h = absurd cc
-  fails (Ok x) (fault.Profile p) h = absurd cc
-  fails (Err left) fault.NotMine h = ap fault_of h
-  fails (Err left) (fault.Unread place) h = ap fault_of h
-  fails (Err left) (fault.Profile p) h = ap fault_of h
-
-  -- the fields don't read, or memory ran out
-  pub read_failed : (e : AskFault) → AnswersAs {A = Fields ask.format} (placed_in body (message_of ask.format (fields_after body))) (Err e) → AnswersAs (asked (Some ask) body) (Err e)
-  read_failed e h = fails (message_of ask.format (fields_after body)) e h
-
 -- the call that was made is run, unless one of its values is null
 pub run_is : (answer : Result Request AskFault) (made call : Call) (null expected : Bool) → answer ≡ served (Run made) (null_refused null) → made ≡ call → null ≡ expected → answer ≡ served (Run call) (null_refused expected)
 run_is answer made call null expected is same nulls = is ∙ ap (λ (k : Call). served (Run k) (null_refused null)) same ∙ ap (λ (b : Bool). served (Run call) (null_refused b)) nulls
@@ -68,14 +45,12 @@ run_is answer made call null expected is same nulls = is ∙ ap (λ (k : Call). 
 abbrev pub is_null_pair : Pair → Bool
 is_null_pair pair = list_any is_null (pair_values pair)
 
-first_two : (a b c : Bool) → ((a || (b || false)) || c) ≡ (a || (b || c))
-first_two true b c = refl
-first_two false true c = refl
-first_two false false c = refl
-
 pub any_pair : (pairs : List Pair) → list_any is_null_pair pairs ≡ list_any is_null (flat_map pair_values pairs)
 any_pair [] = refl
-any_pair (p ∷ ps) = ap (λ (b : Bool). is_null_pair p || b) (any_pair ps) ∙ first_two (is_null p.key) (is_null p.value) (list_any is_null (flat_map pair_values ps))
+any_pair (p ∷ ps) =
+    ap (λ (b : Bool). is_null_pair p || b) (any_pair ps)
+    ∙ or_assoc (is_null p.key) (is_null p.value || false) (list_any is_null (flat_map pair_values ps))
+    ∙ ap (λ (b : Bool). is_null p.key || b) (or_assoc (is_null p.value) false (list_any is_null (flat_map pair_values ps)))
 
 -- ---- the row of an operation
 
