@@ -1,4 +1,4 @@
-use Rattle.std.proofs.Common.{◌≡◌, ℤ, Bool, ap, ◌∙◌, rules}
+use Rattle.std.proofs.Common.{◌≡◌, ℤ, rules}
 use Rattle.std.specs.Prelude.{is_some}
 use Rattle.ig_caches.specs.declared.request.Request.TheVariants.{Scan}
 use Rattle.ig_fields.specs.AsksRightly.{served}
