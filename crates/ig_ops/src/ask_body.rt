@@ -1,14 +1,16 @@
 //! The bodies of the frames of requests.
 
-ghost use Rattle.std.specs.Prelude.{◌≡◌, ◌++◌};
+ghost use Rattle.std.specs.Prelude.{◌≡◌, map, negsuc, None};
+ghost use Rattle.ig_value.specs.Part.{i32 as signed_32};
 ghost use Rattle.ig_fields.specs.Ask.{form_body};
-ghost use Rattle.ig_ops.specs.Requests.{cache_form, key_form, two_form, three_form, keys_form, pairs_form, modes_form, scan_form, cursor_form, call_form, ask_body};
-ghost use Rattle.ig_ops.specs.Views.{rows_written};
+ghost use Rattle.ig_fields.specs.FieldBytes.{fields_bytes};
+ghost use Rattle.ig_fields.specs.Format.{byte, both, scalar, unless_null};
+ghost use Rattle.ig_ops.specs.Requests.{rows_fields, pair_fields, cache_form, key_form, two_form, three_form, keys_form, pairs_form, modes_form, scan_form, cursor_form, call_form, ask_body};
 
 use crate::pair_fields::PairFields;
 use ig_caches::{Call, Pair, Request};
-use ig_encode::{Output, ValueOutput, put_byte, put_count, put_i32, put_i64};
-use ig_fields::{Message, put_ask_head, put_items};
+use ig_encode::{Output, ValueOutput, put_byte, put_i32};
+use ig_fields::{FieldFormat, Message, put_ask_head, put_items};
 use ig_value::{Code, Value};
 use ig_wire::Operation;
 
@@ -34,12 +36,12 @@ impl Message for AskBody<'_> {
     fn put<S: ValueOutput>(&self, out: &mut S, into: &mut [u8]) {
         match self.request {
             Request::Run(call) => put_call(self.id, call, out, into),
-            Request::Scan { cache, page } => put_scan(self.id, *cache, *page, out, into),
+            Request::Scan { cache, page } => put_scan(self.id, cache, page, out, into),
             Request::NextPage { cursor } => {
-                put_cursor(Operation::NextPage, self.id, *cursor, out, into)
+                put_cursor(Operation::NextPage, self.id, cursor, out, into)
             }
             Request::Close { resource } => {
-                put_cursor(Operation::CloseResource, self.id, *resource, out, into)
+                put_cursor(Operation::CloseResource, self.id, resource, out, into)
             }
         }
     }
@@ -51,31 +53,31 @@ fn put_call<S: ValueOutput>(id: i64, call: &Call, out: &mut S, into: &mut [u8])
         ≡ S.Output.after out.old into.old (form_body id (call_form call.now)) }
 {
     match call {
-        Call::Get { cache, key } => put_key(Operation::Get, id, *cache, key, out, into),
+        Call::Get { cache, key } => put_key(Operation::Get, id, cache, key, out, into),
         Call::Put { cache, key, value } => {
-            put_two(Operation::Put, id, *cache, key, value, out, into)
+            put_two(Operation::Put, id, cache, key, value, out, into)
         }
         Call::PutIfAbsent { cache, key, value } => {
-            put_two(Operation::PutIfAbsent, id, *cache, key, value, out, into)
+            put_two(Operation::PutIfAbsent, id, cache, key, value, out, into)
         }
         Call::GetAll { cache, keys } => {
-            put_keys(Operation::GetAll, id, *cache, keys.as_slice(), out, into)
+            put_keys(Operation::GetAll, id, cache, keys.as_slice(), out, into)
         }
-        Call::PutAll { cache, pairs } => put_pairs(id, *cache, pairs.as_slice(), out, into),
+        Call::PutAll { cache, pairs } => put_pairs(id, cache, pairs.as_slice(), out, into),
         Call::GetAndPut { cache, key, value } => {
-            put_two(Operation::GetAndPut, id, *cache, key, value, out, into)
+            put_two(Operation::GetAndPut, id, cache, key, value, out, into)
         }
         Call::GetAndReplace { cache, key, value } => {
-            put_two(Operation::GetAndReplace, id, *cache, key, value, out, into)
+            put_two(Operation::GetAndReplace, id, cache, key, value, out, into)
         }
         Call::GetAndRemove { cache, key } => {
-            put_key(Operation::GetAndRemove, id, *cache, key, out, into)
+            put_key(Operation::GetAndRemove, id, cache, key, out, into)
         }
         Call::GetAndPutIfAbsent { cache, key, value } => {
             put_two(
                 Operation::GetAndPutIfAbsent,
                 id,
-                *cache,
+                cache,
                 key,
                 value,
                 out,
@@ -83,7 +85,7 @@ fn put_call<S: ValueOutput>(id: i64, call: &Call, out: &mut S, into: &mut [u8])
             )
         }
         Call::Replace { cache, key, value } => {
-            put_two(Operation::Replace, id, *cache, key, value, out, into)
+            put_two(Operation::Replace, id, cache, key, value, out, into)
         }
         Call::ReplaceIfEquals {
             cache,
@@ -93,7 +95,7 @@ fn put_call<S: ValueOutput>(id: i64, call: &Call, out: &mut S, into: &mut [u8])
         } => put_three(
             Operation::ReplaceIfEquals,
             id,
-            *cache,
+            cache,
             key,
             wanted,
             value,
@@ -101,47 +103,32 @@ fn put_call<S: ValueOutput>(id: i64, call: &Call, out: &mut S, into: &mut [u8])
             into,
         ),
         Call::ContainsKey { cache, key } => {
-            put_key(Operation::ContainsKey, id, *cache, key, out, into)
+            put_key(Operation::ContainsKey, id, cache, key, out, into)
         }
         Call::ContainsKeys { cache, keys } => {
             put_keys(
                 Operation::ContainsKeys,
                 id,
-                *cache,
+                cache,
                 keys.as_slice(),
                 out,
                 into,
             )
         }
-        Call::Clear { cache } => put_cache(Operation::Clear, id, *cache, out, into),
-        Call::ClearKey { cache, key } => put_key(Operation::ClearKey, id, *cache, key, out, into),
+        Call::Clear { cache } => put_cache(Operation::Clear, id, cache, out, into),
+        Call::ClearKey { cache, key } => put_key(Operation::ClearKey, id, cache, key, out, into),
         Call::ClearKeys { cache, keys } => {
-            put_keys(Operation::ClearKeys, id, *cache, keys.as_slice(), out, into)
+            put_keys(Operation::ClearKeys, id, cache, keys.as_slice(), out, into)
         }
-        Call::RemoveKey { cache, key } => put_key(Operation::RemoveKey, id, *cache, key, out, into),
+        Call::RemoveKey { cache, key } => put_key(Operation::RemoveKey, id, cache, key, out, into),
         Call::RemoveIfEquals { cache, key, wanted } => {
-            put_two(
-                Operation::RemoveIfEquals,
-                id,
-                *cache,
-                key,
-                wanted,
-                out,
-                into,
-            )
+            put_two(Operation::RemoveIfEquals, id, cache, key, wanted, out, into)
         }
         Call::RemoveKeys { cache, keys } => {
-            put_keys(
-                Operation::RemoveKeys,
-                id,
-                *cache,
-                keys.as_slice(),
-                out,
-                into,
-            )
+            put_keys(Operation::RemoveKeys, id, cache, keys.as_slice(), out, into)
         }
-        Call::RemoveAll { cache } => put_cache(Operation::RemoveAll, id, *cache, out, into),
-        Call::Size { cache, modes } => put_modes(id, *cache, modes.as_slice(), out, into),
+        Call::RemoveAll { cache } => put_cache(Operation::RemoveAll, id, cache, out, into),
+        Call::Size { cache, modes } => put_modes(id, cache, modes.as_slice(), out, into),
         _ => put_ask_head(Operation::CloseResource, id, out, into),
     }
 }
@@ -150,28 +137,28 @@ fn put_call<S: ValueOutput>(id: i64, call: &Call, out: &mut S, into: &mut [u8])
 fn put_cache<S: ValueOutput>(
     operation: Operation,
     id: i64,
-    cache: i32,
+    cache: &i32,
     out: &mut S,
     into: &mut [u8],
 )
     ensures { (out.new, into.new)
-        ≡ S.Output.after out.old into.old (form_body id (cache_form operation cache)) }
+        ≡ S.Output.after out.old into.old (form_body id (cache_form operation cache.now)) }
 {
     put_ask_head(operation, id, out, into);
-    put_i32(cache, out, into);
+    <i32 as FieldFormat>::put(cache, out, into);
     put_byte(NO_FLAGS, out, into);
 }
 
 fn put_key<S: ValueOutput>(
     operation: Operation,
     id: i64,
-    cache: i32,
+    cache: &i32,
     key: &Value,
     out: &mut S,
     into: &mut [u8],
 )
     ensures { (out.new, into.new)
-        ≡ S.Output.after out.old into.old (form_body id (key_form operation cache key.now)) }
+        ≡ S.Output.after out.old into.old (form_body id (key_form operation cache.now key.now)) }
 {
     put_cache(operation, id, cache, out, into);
     out.put_value(into, key);
@@ -180,14 +167,14 @@ fn put_key<S: ValueOutput>(
 fn put_two<S: ValueOutput>(
     operation: Operation,
     id: i64,
-    cache: i32,
+    cache: &i32,
     key: &Value,
     value: &Value,
     out: &mut S,
     into: &mut [u8],
 )
     ensures { (out.new, into.new)
-        ≡ S.Output.after out.old into.old (form_body id (two_form operation cache key.now value.now)) }
+        ≡ S.Output.after out.old into.old (form_body id (two_form operation cache.now key.now value.now)) }
 {
     put_cache(operation, id, cache, out, into);
     out.put_value(into, key);
@@ -197,7 +184,7 @@ fn put_two<S: ValueOutput>(
 fn put_three<S: ValueOutput>(
     operation: Operation,
     id: i64,
-    cache: i32,
+    cache: &i32,
     key: &Value,
     wanted: &Value,
     value: &Value,
@@ -205,7 +192,7 @@ fn put_three<S: ValueOutput>(
     into: &mut [u8],
 )
     ensures { (out.new, into.new)
-        ≡ S.Output.after out.old into.old (form_body id (three_form operation cache key.now wanted.now value.now)) }
+        ≡ S.Output.after out.old into.old (form_body id (three_form operation cache.now key.now wanted.now value.now)) }
 {
     put_cache(operation, id, cache, out, into);
     out.put_value(into, key);
@@ -216,41 +203,65 @@ fn put_three<S: ValueOutput>(
 fn put_keys<S: ValueOutput>(
     operation: Operation,
     id: i64,
-    cache: i32,
+    cache: &i32,
     keys: &[Value],
     out: &mut S,
     into: &mut [u8],
 )
     ensures { (out.new, into.new)
-        ≡ S.Output.after out.old into.old (form_body id (keys_form operation cache keys.now)) }
+        ≡ S.Output.after out.old into.old (form_body id (keys_form operation cache.now keys.now)) }
 {
     put_cache(operation, id, cache, out, into);
     put_items::<Value, S>(keys, out, into);
 }
 
-fn put_pairs<S: ValueOutput>(id: i64, cache: i32, pairs: &[Pair], out: &mut S, into: &mut [u8])
+fn put_pairs<S: ValueOutput>(id: i64, cache: &i32, pairs: &[Pair], out: &mut S, into: &mut [u8])
     ensures { (out.new, into.new)
-        ≡ S.Output.after out.old into.old (form_body id (pairs_form cache pairs.now)) }
+        ≡ S.Output.after out.old into.old (form_body id (pairs_form cache.now pairs.now)) }
 {
     put_cache(Operation::PutAll, id, cache, out, into);
+    put_rows(pairs, out, into);
+}
+
+/// Puts keys with their values, and their count.
+fn put_rows<S: ValueOutput>(pairs: &[Pair], out: &mut S, into: &mut [u8])
+    ensures { (out.new, into.new) ≡ S.Output.after out.old into.old
+        (fields_bytes rows_fields (map pair_fields pairs.now)) }
+{
     put_items::<PairFields, S>(pairs, out, into);
 }
 
-fn put_modes<S: ValueOutput>(id: i64, cache: i32, modes: &[u8], out: &mut S, into: &mut [u8])
+fn put_modes<S: ValueOutput>(id: i64, cache: &i32, modes: &[u8], out: &mut S, into: &mut [u8])
     ensures { (out.new, into.new)
-        ≡ S.Output.after out.old into.old (form_body id (modes_form cache modes.now)) }
+        ≡ S.Output.after out.old into.old (form_body id (modes_form cache.now modes.now)) }
 {
     put_cache(Operation::GetSize, id, cache, out, into);
     put_items::<u8, S>(modes, out, into);
 }
 
-fn put_scan<S: ValueOutput>(id: i64, cache: i32, page: i32, out: &mut S, into: &mut [u8])
+fn put_scan<S: ValueOutput>(id: i64, cache: &i32, page: &i32, out: &mut S, into: &mut [u8])
     ensures { (out.new, into.new)
-        ≡ S.Output.after out.old into.old (form_body id (scan_form cache page)) }
+        ≡ S.Output.after out.old into.old (form_body id (scan_form cache.now page.now)) }
 {
     put_cache(Operation::Scan, id, cache, out, into);
+    put_no_filter(out, into);
+    put_page_size(page, out, into);
+}
+
+/// Puts the null that stands for a filter.
+fn put_no_filter<S: ValueOutput>(out: &mut S, into: &mut [u8])
+    ensures { (out.new, into.new)
+        ≡ S.Output.after out.old into.old (fields_bytes (unless_null byte) None) }
+{
     put_byte(Code::Null.byte(), out, into);
-    put_i32(page, out, into);
+}
+
+/// Puts the page size of a scan of all partitions, which isn't local.
+fn put_page_size<S: ValueOutput>(page: &i32, out: &mut S, into: &mut [u8])
+    ensures { (out.new, into.new) ≡ S.Output.after out.old into.old
+        (fields_bytes (both (scalar signed_32) (both (scalar signed_32) byte)) (page.now, (negsuc 0, 0))) }
+{
+    <i32 as FieldFormat>::put(page, out, into);
     put_i32(ALL_PARTITIONS, out, into);
     put_byte(NOT_LOCAL, out, into);
 }
@@ -258,13 +269,13 @@ fn put_scan<S: ValueOutput>(id: i64, cache: i32, page: i32, out: &mut S, into: &
 fn put_cursor<S: ValueOutput>(
     operation: Operation,
     id: i64,
-    cursor: i64,
+    cursor: &i64,
     out: &mut S,
     into: &mut [u8],
 )
     ensures { (out.new, into.new)
-        ≡ S.Output.after out.old into.old (form_body id (cursor_form operation cursor)) }
+        ≡ S.Output.after out.old into.old (form_body id (cursor_form operation cursor.now)) }
 {
     put_ask_head(operation, id, out, into);
-    put_i64(cursor, out, into);
+    <i64 as FieldFormat>::put(cursor, out, into);
 }
