@@ -6,7 +6,7 @@ ghost use Rattle.ig_ops.specs.ReadAnswers.{IsKnown};
 
 use super::*;
 use ig_base::{Items, Octets};
-use ig_caches::{Call, Page, Request, Shown};
+use ig_caches::{Call, Outcome, Page, Pair, Request, Shown};
 use ig_value::Value;
 use ig_wire::{AskFault, Profile, ReadFault};
 use std::alloc::Global;
@@ -463,29 +463,52 @@ fn results_are_read_and_written(rt: HostRuntime) -> Result<(), Fail> {
     Ok(())
 }
 
-/// An array of this many bytes.
-fn many_bytes(alloc: Global, count: usize) -> Result<Value, Fail> {
-    let mut bytes = Vec::new(alloc);
-    bytes.resize(count, 97i8)?;
-    Ok(Value::Bytes(Items::new(bytes)))
+/// An array of this many Bytes.
+fn bytes_of(alloc: Global, count: usize) -> Result<Value, Fail> {
+    let mut items = Vec::new(alloc);
+    items.resize(count, 1i8)?;
+    Ok(Value::Bytes(Items::new(items)))
 }
 
-/// A request that puts an array of this many bytes: whether it was appended, and how many bytes there are.
-fn ask_of_bytes(alloc: Global, count: usize) -> Result<(bool, usize), Fail> {
+/// An array of this many Longs.
+fn longs(alloc: Global, count: usize) -> Result<Value, Fail> {
+    let mut items = Vec::new(alloc);
+    items.resize(count, 1i64)?;
+    Ok(Value::Longs(Items::new(items)))
+}
+
+/// A request that sets an array of so many Bytes to one of 1,048,572 Longs: whether it was appended, and
+/// how many bytes there are.
+fn large_ask(alloc: Global, bytes: usize) -> Result<(bool, usize), Fail> {
     let request = Request::Run(Call::Put {
         cache: 3_343_801,
-        key: Value::Int(1),
-        value: many_bytes(alloc, count)?,
+        key: bytes_of(alloc, bytes)?,
+        value: longs(alloc, 1_048_572)?,
     });
     let mut out = Octets::empty(alloc);
-    let done = write_ask(alloc, 1, &request, &mut out)?;
+    let done = write_ask(alloc, ID, &request, &mut out)?;
     Ok((done, out.len()))
 }
 
 /// A request whose frame would be above the limit isn't written.
 #[test]
 fn requests_keep_the_limit(rt: HostRuntime) -> Result<(), Fail> {
-    assert_eq!(rt; ask_of_bytes(rt.alloc(), 8_388_583)?, (true, 8_388_612));
-    assert_eq!(rt; ask_of_bytes(rt.alloc(), 8_388_584)?, (false, 0));
+    assert_eq!(rt; large_ask(rt.alloc(), 7)?, (true, 8_388_612));
+    assert_eq!(rt; large_ask(rt.alloc(), 8)?, (false, 0));
+    Ok(())
+}
+
+/// The length of a result is that of all of its bytes, however many they are.
+#[test]
+fn large_results_have_their_length(rt: HostRuntime) -> Result<(), Fail> {
+    let alloc = rt.alloc();
+    let pair = Pair {
+        key: longs(alloc, 1_048_576)?,
+        value: longs(alloc, 1_048_575)?,
+    };
+    let mut rows = Vec::new(alloc);
+    rows.push(pair)?;
+    let shown = Shown::Out(Outcome::Pairs(Items::new(rows)));
+    assert_eq!(rt; result_len(&shown), 16_777_222);
     Ok(())
 }
