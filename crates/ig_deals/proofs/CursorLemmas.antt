@@ -1,0 +1,97 @@
+-- Finding cursors by their numbers.
+use Rattle.std.proofs.Common.{None, Some, ◌≡◌, ℕ, suc, ◌<◌, ◌≤◌, ℤ, pos, negsuc, Bool, true, false, if◌then◌else◌, List, [], ◌∷◌, ◌++◌, length, Option, refl, sym, ap, ◌∙◌, subst, arith, inl, inr}
+use Rattle.std.specs.Ordering.{int_eq}
+use Rattle.std.proofs.lemmas.Bool.{cond-true, cond-false}
+use Rattle.std.proofs.lemmas.Bool.Decides.{Decides-int_eq}
+use Rattle.std.proofs.lemmas.Int.{ints}
+use Rattle.ig_deals.specs.Desk.{Cursor, has_number, cursor_at, replaced}
+
+-- ---- the first one that has the number
+
+pub head-true : (k : ℤ) (c : Cursor) (cs : List Cursor) → has_number k c ≡ true → cursor_at (c ∷ cs) k ≡ Some c
+head-true k c cs e = cond-true (has_number k c) (Some c) (cursor_at cs k) e
+
+pub head-false : (k : ℤ) (c : Cursor) (cs : List Cursor) → has_number k c ≡ false → cursor_at (c ∷ cs) k ≡ cursor_at cs k
+head-false k c cs e = cond-false (has_number k c) (Some c) (cursor_at cs k) e
+
+some_none : (c : Cursor) → Some c ≡ None → ⊥
+some_none c h = cc
+
+pub some_same : (c d : Cursor) → Some c ≡ Some d → c ≡ d
+some_same c d h = cc
+
+pub found-append : (k : ℤ) (xs ys : List Cursor) → cursor_at ys k ≡ None → cursor_at (xs ++ ys) k ≡ cursor_at xs k
+found-append k [] ys e = e
+found-append k (x ∷ xs) ys e = ap (λ (o : Option Cursor). if has_number k x then Some x else o) (found-append k xs ys e)
+
+pub found-after : (k : ℤ) (xs ys : List Cursor) → cursor_at xs k ≡ None → cursor_at (xs ++ ys) k ≡ cursor_at ys k
+found-after k [] ys e = refl
+found-after k (x ∷ xs) ys e = by_head (has_number k x) refl where
+  by_head : (b : Bool) → has_number k x ≡ b → cursor_at (x ∷ (xs ++ ys)) k ≡ cursor_at ys k
+  by_head true h = absurd (some_none x (sym (head-true k x xs h) ∙ e))
+  by_head false h = head-false k x (xs ++ ys) h ∙ found-after k xs ys (sym (head-false k x xs h) ∙ e)
+
+pub found_has : (k : ℤ) (cs : List Cursor) (c : Cursor) → cursor_at cs k ≡ Some c → has_number k c ≡ true
+found_has k [] c e = cc
+found_has k (x ∷ xs) c e = by_head (has_number k x) refl where
+  by_head : (b : Bool) → has_number k x ≡ b → has_number k c ≡ true
+  by_head true h = subst (λ (d : Cursor). has_number k d ≡ true) (some_same x c (sym (head-true k x xs h) ∙ e)) h
+  by_head false h = found_has k xs c (sym (head-false k x xs h) ∙ e)
+
+-- a cursor with another number
+pub alone_none : (k : ℤ) (c : Cursor) → has_number k c ≡ false → cursor_at (c ∷ []) k ≡ None
+alone_none k c e = head-false k c [] e
+
+-- another number than one that a cursor has
+pub other_number : (j k : ℤ) (c : Cursor) → int_eq j k ≡ false → has_number j c ≡ true → has_number k c ≡ false
+other_number j k c other has = subst (λ (i : ℤ). int_eq i k ≡ false) (sym ((Decides-int_eq (pos c.number) j).0 has)) other
+
+not_equal : (n m : ℕ) (b : Bool) → int_eq (pos n) (pos m) ≡ b → m < n → b ≡ false
+not_equal n m true e lt = let same : pos n ≡ pos m = (Decides-int_eq (pos n) (pos m)).0 e in absurd (omega (arith, ints, same, lt))
+not_equal n m false e lt = refl
+
+-- a later number isn't an earlier one
+pub later_number : (n m : ℕ) → m < n → int_eq (pos n) (pos m) ≡ false
+later_number n m lt = not_equal n m (int_eq (pos n) (pos m)) refl lt
+
+not_equal_to : (n m : ℕ) (b : Bool) → int_eq (pos n) (pos m) ≡ b → n < m → b ≡ false
+not_equal_to n m true e lt = let same : pos n ≡ pos m = (Decides-int_eq (pos n) (pos m)).0 e in absurd (omega (arith, ints, same, lt))
+not_equal_to n m false e lt = refl
+
+-- an earlier number isn't a later one
+pub earlier_number : (n m : ℕ) → n < m → int_eq (pos n) (pos m) ≡ false
+earlier_number n m lt = not_equal_to n m (int_eq (pos n) (pos m)) refl lt
+
+pub open_other : (b : Bool) (k : ℤ) (cursor : Cursor) → cursor_at (cursor ∷ []) k ≡ None → cursor_at (if b then cursor ∷ [] else []) k ≡ None
+open_other true k cursor e = e
+open_other false k cursor e = refl
+
+-- ---- cursors in the place of the one with a number
+
+pub replaced_by : (k : ℤ) (cs : List Cursor) (c now : Cursor) → cursor_at cs k ≡ Some c → has_number k now ≡ true → cursor_at (replaced cs k (now ∷ [])) k ≡ Some now
+replaced_by k [] c now e has = cc
+replaced_by k (x ∷ xs) c now e has = by_head (has_number k x) refl where
+  by_head : (b : Bool) → has_number k x ≡ b → cursor_at (replaced (x ∷ xs) k (now ∷ [])) k ≡ Some now
+  by_head true h = ap (λ (b : Bool). cursor_at ((if b then now ∷ [] else x ∷ []) ++ replaced xs k (now ∷ [])) k) h ∙ head-true k now (replaced xs k (now ∷ [])) has
+  by_head false h =
+      ap (λ (b : Bool). cursor_at ((if b then now ∷ [] else x ∷ []) ++ replaced xs k (now ∷ [])) k) h ∙ head-false k x (replaced xs k (now ∷ [])) h
+      ∙ replaced_by k xs c now (sym (head-false k x xs h) ∙ e) has
+
+pub replaced_none : (k : ℤ) (cs : List Cursor) → cursor_at (replaced cs k []) k ≡ None
+replaced_none k [] = refl
+replaced_none k (x ∷ xs) = by_head (has_number k x) refl where
+  by_head : (b : Bool) → has_number k x ≡ b → cursor_at (replaced (x ∷ xs) k []) k ≡ None
+  by_head true h = ap (λ (b : Bool). cursor_at ((if b then [] else x ∷ []) ++ replaced xs k []) k) h ∙ replaced_none k xs
+  by_head false h = ap (λ (b : Bool). cursor_at ((if b then [] else x ∷ []) ++ replaced xs k []) k) h ∙ head-false k x (replaced xs k []) h ∙ replaced_none k xs
+
+-- those with other numbers stay
+pub replaced_other : (j k : ℤ) (cs now : List Cursor) → int_eq j k ≡ false → cursor_at now k ≡ None → cursor_at (replaced cs j now) k ≡ cursor_at cs k
+replaced_other j k [] now other e = refl
+replaced_other j k (x ∷ xs) now other e = by_head (has_number j x) refl where
+  by_head : (b : Bool) → has_number j x ≡ b → cursor_at (replaced (x ∷ xs) j now) k ≡ cursor_at (x ∷ xs) k
+  by_head true h =
+      ap (λ (b : Bool). cursor_at ((if b then now else x ∷ []) ++ replaced xs j now) k) h ∙ found-after k now (replaced xs j now) e ∙ replaced_other j k xs now other e
+      ∙ sym (head-false k x xs (other_number j k x other h))
+  by_head false h =
+      ap (λ (b : Bool). cursor_at ((if b then now else x ∷ []) ++ replaced xs j now) k) h
+      ∙ ap (λ (o : Option Cursor). if has_number k x then Some x else o) (replaced_other j k xs now other e)

@@ -1,0 +1,7 @@
+pub mod DealLemmas
+pub mod ReplyLemmas
+pub mod ApartLemmas
+pub mod CursorLemmas
+pub mod PageLemmas
+pub mod DeskLemmas
+mod WorkedSessions

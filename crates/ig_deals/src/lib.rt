@@ -1,0 +1,13 @@
+//! What a session is asked, what its calls are given, and what it replies: the definitions that a
+//! session is proved against, and its plain states.
+#![tactic(auto)]
+
+mod cfg;
+mod end;
+mod laws;
+mod manner;
+
+pub use cfg::SessionCfg;
+pub use end::SessionEnd;
+pub use laws::{asks_grow, deals_grow, own_reply_alone, pages_are_rows, replies_grow};
+pub use manner::Manner;
