@@ -1,7 +1,7 @@
 -- Finding cursors by their numbers.
 use Rattle.std.proofs.Common.{None, Some, ◌≡◌, ℕ, suc, ◌<◌, ◌≤◌, ℤ, pos, negsuc, Bool, true, false, if◌then◌else◌, List, [], ◌∷◌, ◌++◌, length, Option, refl, sym, ap, ◌∙◌, subst, arith, inl, inr}
 use Rattle.std.specs.Ordering.{int_eq}
-use Rattle.std.proofs.lemmas.Bool.{cond-true, cond-false}
+use Rattle.std.proofs.lemmas.Bool.{cases_Bool, cond-true, cond-false}
 use Rattle.std.proofs.lemmas.Bool.Decides.{Decides-int_eq}
 use Rattle.std.proofs.lemmas.Int.{ints}
 use Rattle.ig_deals.specs.Desk.{Cursor, has_number, cursor_at, replaced}
@@ -26,17 +26,17 @@ found-append k (x ∷ xs) ys e = ap (λ (o : Option Cursor). if has_number k x t
 
 pub found-after : (k : ℤ) (xs ys : List Cursor) → cursor_at xs k ≡ None → cursor_at (xs ++ ys) k ≡ cursor_at ys k
 found-after k [] ys e = refl
-found-after k (x ∷ xs) ys e = by_head (has_number k x) refl where
-  by_head : (b : Bool) → has_number k x ≡ b → cursor_at (x ∷ (xs ++ ys)) k ≡ cursor_at ys k
-  by_head true h = absurd (some_none x (sym (head-true k x xs h) ∙ e))
-  by_head false h = head-false k x (xs ++ ys) h ∙ found-after k xs ys (sym (head-false k x xs h) ∙ e)
+found-after k (x ∷ xs) ys e = elim (cases_Bool (has_number k x)) [
+  | inl h ↦ absurd (some_none x (sym (head-true k x xs h) ∙ e))
+  | inr h ↦ head-false k x (xs ++ ys) h ∙ found-after k xs ys (sym (head-false k x xs h) ∙ e)
+]
 
 pub found_has : (k : ℤ) (cs : List Cursor) (c : Cursor) → cursor_at cs k ≡ Some c → has_number k c ≡ true
 found_has k [] c e = cc
-found_has k (x ∷ xs) c e = by_head (has_number k x) refl where
-  by_head : (b : Bool) → has_number k x ≡ b → has_number k c ≡ true
-  by_head true h = subst (λ (d : Cursor). has_number k d ≡ true) (some_same x c (sym (head-true k x xs h) ∙ e)) h
-  by_head false h = found_has k xs c (sym (head-false k x xs h) ∙ e)
+found_has k (x ∷ xs) c e = elim (cases_Bool (has_number k x)) [
+  | inl h ↦ subst (λ (d : Cursor). has_number k d ≡ true) (some_same x c (sym (head-true k x xs h) ∙ e)) h
+  | inr h ↦ found_has k xs c (sym (head-false k x xs h) ∙ e)
+]
 
 -- a cursor with another number
 pub alone_none : (k : ℤ) (c : Cursor) → has_number k c ≡ false → cursor_at (c ∷ []) k ≡ None
@@ -68,30 +68,40 @@ open_other false k cursor e = refl
 
 -- ---- cursors in the place of the one with a number
 
+-- the cursors that stand in the place of one, and the ones after it
+abbrev choice : Bool → List Cursor → Cursor → List Cursor → List Cursor
+choice b now x rest = (if b then now else x ∷ []) ++ rest
+
 pub replaced_by : (k : ℤ) (cs : List Cursor) (c now : Cursor) → cursor_at cs k ≡ Some c → has_number k now ≡ true → cursor_at (replaced cs k (now ∷ [])) k ≡ Some now
 replaced_by k [] c now e has = cc
-replaced_by k (x ∷ xs) c now e has = by_head (has_number k x) refl where
-  by_head : (b : Bool) → has_number k x ≡ b → cursor_at (replaced (x ∷ xs) k (now ∷ [])) k ≡ Some now
-  by_head true h = ap (λ (b : Bool). cursor_at ((if b then now ∷ [] else x ∷ []) ++ replaced xs k (now ∷ [])) k) h ∙ head-true k now (replaced xs k (now ∷ [])) has
-  by_head false h =
-      ap (λ (b : Bool). cursor_at ((if b then now ∷ [] else x ∷ []) ++ replaced xs k (now ∷ [])) k) h ∙ head-false k x (replaced xs k (now ∷ [])) h
+replaced_by k (x ∷ xs) c now e has = elim (cases_Bool (has_number k x)) [
+  | inl h ↦
+      ap (λ (b : Bool). cursor_at (choice b (now ∷ []) x (replaced xs k (now ∷ []))) k) h
+      ∙ head-true k now (replaced xs k (now ∷ [])) has
+  | inr h ↦
+      ap (λ (b : Bool). cursor_at (choice b (now ∷ []) x (replaced xs k (now ∷ []))) k) h
+      ∙ head-false k x (replaced xs k (now ∷ [])) h
       ∙ replaced_by k xs c now (sym (head-false k x xs h) ∙ e) has
+]
 
 pub replaced_none : (k : ℤ) (cs : List Cursor) → cursor_at (replaced cs k []) k ≡ None
 replaced_none k [] = refl
-replaced_none k (x ∷ xs) = by_head (has_number k x) refl where
-  by_head : (b : Bool) → has_number k x ≡ b → cursor_at (replaced (x ∷ xs) k []) k ≡ None
-  by_head true h = ap (λ (b : Bool). cursor_at ((if b then [] else x ∷ []) ++ replaced xs k []) k) h ∙ replaced_none k xs
-  by_head false h = ap (λ (b : Bool). cursor_at ((if b then [] else x ∷ []) ++ replaced xs k []) k) h ∙ head-false k x (replaced xs k []) h ∙ replaced_none k xs
+replaced_none k (x ∷ xs) = elim (cases_Bool (has_number k x)) [
+  | inl h ↦ ap (λ (b : Bool). cursor_at (choice b [] x (replaced xs k [])) k) h ∙ replaced_none k xs
+  | inr h ↦
+      ap (λ (b : Bool). cursor_at (choice b [] x (replaced xs k [])) k) h
+      ∙ head-false k x (replaced xs k []) h ∙ replaced_none k xs
+]
 
 -- those with other numbers stay
 pub replaced_other : (j k : ℤ) (cs now : List Cursor) → int_eq j k ≡ false → cursor_at now k ≡ None → cursor_at (replaced cs j now) k ≡ cursor_at cs k
 replaced_other j k [] now other e = refl
-replaced_other j k (x ∷ xs) now other e = by_head (has_number j x) refl where
-  by_head : (b : Bool) → has_number j x ≡ b → cursor_at (replaced (x ∷ xs) j now) k ≡ cursor_at (x ∷ xs) k
-  by_head true h =
-      ap (λ (b : Bool). cursor_at ((if b then now else x ∷ []) ++ replaced xs j now) k) h ∙ found-after k now (replaced xs j now) e ∙ replaced_other j k xs now other e
+replaced_other j k (x ∷ xs) now other e = elim (cases_Bool (has_number j x)) [
+  | inl h ↦
+      ap (λ (b : Bool). cursor_at (choice b now x (replaced xs j now)) k) h
+      ∙ found-after k now (replaced xs j now) e ∙ replaced_other j k xs now other e
       ∙ sym (head-false k x xs (other_number j k x other h))
-  by_head false h =
-      ap (λ (b : Bool). cursor_at ((if b then now else x ∷ []) ++ replaced xs j now) k) h
+  | inr h ↦
+      ap (λ (b : Bool). cursor_at (choice b now x (replaced xs j now)) k) h
       ∙ ap (λ (o : Option Cursor). if has_number k x then Some x else o) (replaced_other j k xs now other e)
+]

@@ -14,7 +14,7 @@ use Rattle.ig_caches.specs.declared.request.Request.{Request}
 use Rattle.ig_caches.specs.declared.request.Request.TheVariants.{Run, Scan, NextPage, Close}
 use Rattle.ig_deals.specs.Faults.{fault_of}
 use Rattle.ig_deals.specs.Deals.{Got, Had, NoMemory, Deal}
-use Rattle.ig_deals.specs.Desk.{Cursor, Desk, has_number, has_more, after_page, cursor_at, replaced}
+use Rattle.ig_deals.specs.Desk.{Cursor, Desk, fresh_desk, has_number, has_more, after_page, cursor_at, replaced}
 use Rattle.ig_deals.specs.Replies.{Fails, Reply, fits}
 use Rattle.ig_deals.specs.Turns.{Terms, Turn, untold, telling, answers, page_content, open_after, first_page, cursor_for, pairs_in, scan_answer, next_turn, close_turn, turn_for, turn}
 use Rattle.ig_deals.specs.OutFrames.{desk_after}
@@ -23,12 +23,13 @@ use Rattle.ig_deals.proofs.CursorLemmas.{found-append, found_has, alone_none, ot
 
 -- ---- how many are open
 
+choice_few : (b : Bool) (now : List Cursor) (x : Cursor) (rest : List Cursor) (n : ℕ) → length now ≤ 1 → length rest ≤ n → length ((if b then now else x ∷ []) ++ rest) ≤ suc n
+choice_few true now x rest n one le = omega (arith, length-append now rest, one, le)
+choice_few false now x rest n one le = omega (arith, le)
+
 replaced_few : (k : ℤ) (cs now : List Cursor) → length now ≤ 1 → length (replaced cs k now) ≤ length cs
 replaced_few k [] now one = omega arith
-replaced_few k (x ∷ xs) now one = by_head (has_number k x) where
-  by_head : (b : Bool) → length ((if b then now else x ∷ []) ++ replaced xs k now) ≤ length (x ∷ xs)
-  by_head true = omega (arith, length-append now (replaced xs k now), replaced_few k xs now one, one)
-  by_head false = omega (arith, replaced_few k xs now one)
+replaced_few k (x ∷ xs) now one = choice_few (has_number k x) now x (replaced xs k now) (length xs) one (replaced_few k xs now one)
 
 open_few : (b : Bool) (cursor : Cursor) → length (if b then cursor ∷ [] else []) ≤ 1
 open_few true cursor = omega arith
@@ -36,10 +37,10 @@ open_few false cursor = omega arith
 
 first_few : (more full fit : Bool) (cs : List Cursor) (cursor : Cursor) → nat_le most_cursors (length cs) ≡ full → (more && full) ≡ false → length cs ≤ most_cursors
     → length (cs ++ (if more && fit then cursor ∷ [] else [])) ≤ most_cursors
-first_few false full fit cs cursor e no few = subst (λ (l : List Cursor). length l ≤ most_cursors) (sym (append-nil cs)) few
-first_few true true fit cs cursor e no few = absurd cc
-first_few true false true cs cursor e no few = let room : length cs < most_cursors = leb-false most_cursors (length cs) e in omega (arith, length-append cs (cursor ∷ []), room)
-first_few true false false cs cursor e no few = subst (λ (l : List Cursor). length l ≤ most_cursors) (sym (append-nil cs)) few
+first_few false full fit cs cursor e h few = subst (λ (l : List Cursor). length l ≤ most_cursors) (sym (append-nil cs)) few
+first_few true true fit cs cursor e h few = absurd cc
+first_few true false true cs cursor e h few = let room : length cs < most_cursors = leb-false most_cursors (length cs) e in omega (arith, length-append cs (cursor ∷ []), room)
+first_few true false false cs cursor e h few = subst (λ (l : List Cursor). length l ≤ most_cursors) (sym (append-nil cs)) few
 
 -- ---- turns
 
@@ -52,8 +53,8 @@ same_desk desk now e f is = record {
 
 first_desk : (terms : Terms) (desk : Desk) (minor : ℤ) (cursor : Cursor) (page : Reply) → cursor.number ≡ desk.next
     → (has_more cursor && nat_le most_cursors (length desk.cursors)) ≡ false → IsDesk desk → IsDesk (first_page terms desk minor cursor page).desk
-first_desk terms desk minor cursor page is_next no is = record {
-  few = first_few (has_more cursor) (nat_le most_cursors (length desk.cursors)) (fits terms.version page) desk.cursors (after_page cursor) refl no is.few;
+first_desk terms desk minor cursor page is_next h is = record {
+  few = first_few (has_more cursor) (nat_le most_cursors (length desk.cursors)) (fits terms.version page) desk.cursors (after_page cursor) refl h is.few;
   unused = λ m le.
       let lt : cursor.number < m = subst (λ (n : ℕ). n < m) (sym is_next) (omega (arith, le)) in
       found-append (pos m) desk.cursors (open_after terms.version page cursor)
@@ -121,3 +122,6 @@ turn_desk terms desk deal is = desk_for terms desk deal.asked.id deal.asked.requ
 pub desks_stay : (terms : Terms) (desk : Desk) (deals : List Deal) → IsDesk desk → IsDesk (desk_after terms desk deals)
 desks_stay terms desk [] is = is
 desks_stay terms desk (deal ∷ deals) is = desks_stay terms (turn terms desk deal).desk deals (turn_desk terms desk deal is)
+
+pub fresh_is_desk : IsDesk fresh_desk
+fresh_is_desk = record { few = omega arith; unused = λ m le. refl }

@@ -4,4 +4,5 @@ pub mod ApartLemmas
 pub mod CursorLemmas
 pub mod PageLemmas
 pub mod DeskLemmas
+pub mod CutLemmas
 mod WorkedSessions

@@ -1,6 +1,6 @@
 -- What pages show of a cursor's rows.
 use Rattle.std.specs.Prelude.{◌&&◌, nat_le}
-use Rattle.std.proofs.Common.{None, Some, ◌≡◌, ℕ, suc, ◌<◌, ◌≤◌, ℤ, pos, negsuc, Bool, true, false, if◌then◌else◌, List, [], ◌∷◌, ◌++◌, length, take, drop, Option, Result, Ok, Err, refl, sym, ap, ◌∙◌, subst, arith, append-nil, append-assoc, take-append-drop}
+use Rattle.std.proofs.Common.{None, Some, ◌≡◌, ℕ, suc, ◌<◌, ◌≤◌, ℤ, pos, negsuc, Bool, true, false, if◌then◌else◌, List, [], ◌∷◌, ◌++◌, length, take, drop, Option, Result, Ok, Err, refl, sym, ap, ◌∙◌, subst, arith, append-nil, append_assoc, take-append-drop}
 use Rattle.std.specs.Ordering.{int_eq}
 use Rattle.std.proofs.lemmas.Bool.Decides.{Decides-int_eq}
 use Rattle.ig_base.specs.declared.Topology.{Topology}
@@ -32,7 +32,7 @@ shows_closed (Some c) b e = (c.rows, refl, subst (λ (o : Option Cursor). HasLef
 shows_closed None b e = (refl, e)
 
 shows_then : (a : Option Cursor) (s : List Pair) (b : Option Cursor) (t : List Pair) (d : Option Cursor) → ShowsOf a s b → ShowsOf b t d → ShowsOf a (s ++ t) d
-shows_then (Some c) s (Some m) t d h g = (g.0, append-assoc s t g.0 ∙ ap (λ (l : List Pair). s ++ l) (g.1 ∙ sym h.2) ∙ h.1, g.2)
+shows_then (Some c) s (Some m) t d h g = (g.0, append_assoc s t g.0 ∙ ap (λ (l : List Pair). s ++ l) (g.1 ∙ sym h.2) ∙ h.1, g.2)
 shows_then (Some c) s None t d h g = (
   h.0,
   ap (λ (l : List Pair). (s ++ l) ++ h.0) g.0 ∙ ap (λ (l : List Pair). l ++ h.0) (append-nil s) ∙ h.1,

@@ -1,6 +1,7 @@
 -- Laws of asks, deals, desks and frames.
 use Rattle.std.specs.Prelude.{◌≡◌, ◌≢◌, ℕ, ◌<◌, ◌≤◌, ℤ, pos, Bool, false, List, [], ◌∷◌, ◌++◌, map, length, Option, None, Some, Result, Ok, Err, if◌then◌else◌}
 use Rattle.std.specs.Ordering.{int_eq}
+use Rattle.ig_base.specs.Frames.{client, Begins, Cut}
 use Rattle.ig_wire.specs.declared.version.Version.{Version}
 use Rattle.ig_wire.specs.declared.hello.Hello.{Hello}
 use Rattle.ig_wire.specs.declared.hello.HelloFault.{HelloFault}
@@ -12,15 +13,18 @@ use Rattle.ig_caches.specs.declared.request.Request.{Request}
 use Rattle.ig_caches.specs.declared.request.Request.TheVariants.{Run, Scan, NextPage}
 use Rattle.ig_caches.specs.declared.request.Shown.TheVariants.{Page}
 use Rattle.ig_deals.specs.declared.cfg.SessionCfg.{SessionCfg}
+use Rattle.ig_deals.specs.declared.end.SessionEnd.{SessionEnd}
+use Rattle.ig_deals.specs.declared.end.SessionEnd.TheVariants as ends
 use Rattle.ig_deals.specs.declared.manner.Manner.{Manner}
 use Rattle.ig_deals.specs.declared.manner.Manner.TheVariants.{AtChanges}
 use Rattle.ig_deals.specs.Hellos.{greeting_of}
 use Rattle.ig_deals.specs.Asks.{Asked, asks}
-use Rattle.ig_deals.specs.Deals.{Got, Had, calls, Deal, dealt}
+use Rattle.ig_deals.specs.Deals.{Got, Had, Ran, handed, gots, calls, Deal, dealt}
 use Rattle.ig_deals.specs.Desk.{Cursor, Desk, fresh_desk, cursor_at}
 use Rattle.ig_deals.specs.Replies.{Content, Shows, Reply}
 use Rattle.ig_deals.specs.Turns.{Terms, cursor_for, turn}
 use Rattle.ig_deals.specs.OutFrames.{replies, desk_after, reply_frames, terms_at, out_frames}
+use Rattle.ig_deals.specs.Serves.{EndsBy, joined, ShowsPart}
 
 -- the second list goes on from the first
 abbrev pub IsPrefix : {A : Type 0} → List A → List A → Type 0
@@ -183,3 +187,33 @@ pub record IsDesk (desk : Desk) : Type 0 where
 
 abbrev pub DesksStay : Type 0
 DesksStay = (terms : Terms) (desk : Desk) (deals : List Deal) → IsDesk desk → IsDesk (desk_after terms desk deals)
+
+abbrev pub FreshIsDesk : Type 0
+FreshIsDesk = IsDesk fresh_desk
+
+-- ---- ends
+
+-- What was written of frames that may be cut off is a prefix of them, and with the last call's result left out, all
+-- frames were written whole: at most the last entry of a session lacks its whole reply.
+abbrev pub LastIsCutOff : Type 0
+LastIsCutOff =
+    (cfg : SessionCfg) (manner_at : Version → Manner) (bodies : List (List ℕ)) (ran : List Ran) (last : Ran) (output : List ℕ)
+    → handed (ran ++ last ∷ []) ≡ calls (asks bodies)
+    → ShowsPart (out_frames cfg manner_at bodies (gots (ran ++ last ∷ []))) output
+    → IsPrefix (joined (out_frames cfg manner_at bodies (gots ran))) output
+
+abbrev pub PartIsPrefix : Type 0
+PartIsPrefix = (frames : List (List ℕ)) (output : List ℕ) → ShowsPart frames output → IsPrefix output (joined frames)
+
+-- the ends that come after all whole frames of the input were read
+abbrev pub IsAfterReading : SessionEnd → Type 0
+IsAfterReading (ends.HelloRefused fault) = ⊥
+IsAfterReading ends.WriteFault = ⊥
+IsAfterReading ends.NoMemory = ⊥
+IsAfterReading end = Unit {0}
+
+-- at these the input determines the bodies: they are its whole frames
+abbrev pub EndsCut : Type 0
+EndsCut =
+    (end : SessionEnd) (input : List ℕ) (bodies : List (List ℕ)) (after : List ℕ) → IsAfterReading end
+    → Begins client input bodies after → EndsBy end input bodies after → Cut client input bodies after

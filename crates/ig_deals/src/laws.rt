@@ -1,7 +1,7 @@
 //! Laws of what a session is asked and what it replies. These functions do nothing; their contracts
 //! say what holds of all lists.
 
-ghost use Rattle.ig_deals.specs.Laws.{AsksGrow, RefusedAsksNothing, CallsGrow, DealsGrow, AllAreDealt, FirstAreDealt, DealsStay, RepliesGrow, OneReplyEach, FramesGrow, FramesStay, OwnReplyAlone, PagesAreRows, FirstPageIsFirst, DesksStay};
+ghost use Rattle.ig_deals.specs.Laws.{AsksGrow, RefusedAsksNothing, CallsGrow, DealsGrow, AllAreDealt, FirstAreDealt, DealsStay, RepliesGrow, OneReplyEach, FramesGrow, FramesStay, OwnReplyAlone, PagesAreRows, FirstPageIsFirst, DesksStay, FreshIsDesk, LastIsCutOff, PartIsPrefix, EndsCut};
 
 /// More bodies ask more, and change nothing of what was asked. After a refused hello nothing is
 /// asked.
@@ -41,4 +41,13 @@ pub fn pages_are_rows()
     ensures pages { PagesAreRows }
     ensures first { FirstPageIsFirst }
     ensures desks { DesksStay }
+    ensures fresh { FreshIsDesk }
+{}
+
+/// Where an end may cut off the output, at most the last call lacks its whole reply. At the other ends
+/// the bodies that were read are the whole frames of the input.
+pub fn ends_are_exact()
+    ensures last { LastIsCutOff }
+    ensures prefix { PartIsPrefix }
+    ensures cut { EndsCut }
 {}

@@ -9,5 +9,7 @@ mod manner;
 
 pub use cfg::SessionCfg;
 pub use end::SessionEnd;
-pub use laws::{asks_grow, deals_grow, own_reply_alone, pages_are_rows, replies_grow};
+pub use laws::{
+    asks_grow, deals_grow, ends_are_exact, own_reply_alone, pages_are_rows, replies_grow,
+};
 pub use manner::Manner;
