@@ -4,7 +4,7 @@ use Rattle.std.specs.Ordering.{int_eq}
 use Rattle.std.proofs.lemmas.Bool.{cases_Bool, cond-true, cond-false}
 use Rattle.std.proofs.lemmas.Bool.Decides.{Decides-int_eq}
 use Rattle.std.proofs.lemmas.Int.{ints}
-use Rattle.ig_deals.specs.Desk.{Cursor, has_number, cursor_at, replaced}
+use Rattle.ig_deals.specs.Desk.{Cursor, has_number, cursor_at, without}
 
 -- ---- the first one that has the number
 
@@ -66,42 +66,47 @@ pub open_other : (b : Bool) (k : ℤ) (cursor : Cursor) → cursor_at (cursor �
 open_other true k cursor e = e
 open_other false k cursor e = refl
 
--- ---- cursors in the place of the one with a number
+-- ---- cursors without one
 
--- the cursors that stand in the place of one, and the ones after it
-abbrev choice : Bool → List Cursor → Cursor → List Cursor → List Cursor
-choice b now x rest = (if b then now else x ∷ []) ++ rest
+-- the cursors from one on, which goes if the test passes
+abbrev choice : Bool → Cursor → List Cursor → List Cursor
+choice b x rest = if b then rest else x ∷ rest
 
-pub replaced_by : (k : ℤ) (cs : List Cursor) (c now : Cursor) → cursor_at cs k ≡ Some c → has_number k now ≡ true → cursor_at (replaced cs k (now ∷ [])) k ≡ Some now
-replaced_by k [] c now e has = cc
-replaced_by k (x ∷ xs) c now e has = elim (cases_Bool (has_number k x)) [
-  | inl h ↦
-      ap (λ (b : Bool). cursor_at (choice b (now ∷ []) x (replaced xs k (now ∷ []))) k) h
-      ∙ head-true k now (replaced xs k (now ∷ [])) has
-  | inr h ↦
-      ap (λ (b : Bool). cursor_at (choice b (now ∷ []) x (replaced xs k (now ∷ []))) k) h
-      ∙ head-false k x (replaced xs k (now ∷ [])) h
-      ∙ replaced_by k xs c now (sym (head-false k x xs h) ∙ e) has
-]
-
-pub replaced_none : (k : ℤ) (cs : List Cursor) → cursor_at (replaced cs k []) k ≡ None
-replaced_none k [] = refl
-replaced_none k (x ∷ xs) = elim (cases_Bool (has_number k x)) [
-  | inl h ↦ ap (λ (b : Bool). cursor_at (choice b [] x (replaced xs k [])) k) h ∙ replaced_none k xs
-  | inr h ↦
-      ap (λ (b : Bool). cursor_at (choice b [] x (replaced xs k [])) k) h
-      ∙ head-false k x (replaced xs k []) h ∙ replaced_none k xs
+pub without_none : (k : ℤ) (cs : List Cursor) → cursor_at (without cs k) k ≡ None
+without_none k [] = refl
+without_none k (x ∷ xs) = elim (cases_Bool (has_number k x)) [
+  | inl h ↦ ap (λ (b : Bool). cursor_at (choice b x (without xs k)) k) h ∙ without_none k xs
+  | inr h ↦ ap (λ (b : Bool). cursor_at (choice b x (without xs k)) k) h ∙ head-false k x (without xs k) h ∙ without_none k xs
 ]
 
 -- those with other numbers stay
-pub replaced_other : (j k : ℤ) (cs now : List Cursor) → int_eq j k ≡ false → cursor_at now k ≡ None → cursor_at (replaced cs j now) k ≡ cursor_at cs k
-replaced_other j k [] now other e = refl
-replaced_other j k (x ∷ xs) now other e = elim (cases_Bool (has_number j x)) [
+pub without_other : (j k : ℤ) (cs : List Cursor) → int_eq j k ≡ false → cursor_at (without cs j) k ≡ cursor_at cs k
+without_other j k [] other = refl
+without_other j k (x ∷ xs) other = elim (cases_Bool (has_number j x)) [
   | inl h ↦
-      ap (λ (b : Bool). cursor_at (choice b now x (replaced xs j now)) k) h
-      ∙ found-after k now (replaced xs j now) e ∙ replaced_other j k xs now other e
+      ap (λ (b : Bool). cursor_at (choice b x (without xs j)) k) h ∙ without_other j k xs other
       ∙ sym (head-false k x xs (other_number j k x other h))
   | inr h ↦
-      ap (λ (b : Bool). cursor_at (choice b now x (replaced xs j now)) k) h
-      ∙ ap (λ (o : Option Cursor). if has_number k x then Some x else o) (replaced_other j k xs now other e)
+      ap (λ (b : Bool). cursor_at (choice b x (without xs j)) k) h
+      ∙ ap (λ (o : Option Cursor). if has_number k x then Some x else o) (without_other j k xs other)
+]
+
+choice_few : (b : Bool) (x : Cursor) (rest : List Cursor) (n : ℕ) → length rest ≤ n → length (choice b x rest) ≤ suc n
+choice_few true x rest n le = omega (arith, le)
+choice_few false x rest n le = omega (arith, le)
+
+pub without_few : (k : ℤ) (cs : List Cursor) → length (without cs k) ≤ length cs
+without_few k [] = omega arith
+without_few k (x ∷ xs) = choice_few (has_number k x) x (without xs k) (length xs) (without_few k xs)
+
+-- one goes where there is one
+pub without_fewer : (k : ℤ) (cs : List Cursor) (c : Cursor) → cursor_at cs k ≡ Some c → length (without cs k) < length cs
+without_fewer k [] c e = cc
+without_fewer k (x ∷ xs) c e = elim (cases_Bool (has_number k x)) [
+  | inl h ↦
+      let less : length (without xs k) ≤ length xs = without_few k xs in
+      subst (λ (b : Bool). length (choice b x (without xs k)) < suc (length xs)) (sym h) (omega (arith, less))
+  | inr h ↦
+      let less : length (without xs k) < length xs = without_fewer k xs c (sym (head-false k x xs h) ∙ e) in
+      subst (λ (b : Bool). length (choice b x (without xs k)) < suc (length xs)) (sym h) (omega (arith, less))
 ]

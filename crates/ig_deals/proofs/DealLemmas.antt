@@ -1,17 +1,27 @@
 -- Asks and deals of longer lists.
-use Rattle.std.proofs.Common.{None, Some, ◌≡◌, ℕ, List, [], ◌∷◌, ◌++◌, map, length, Option, Result, Ok, Err, refl, sym, ap, ◌∙◌, arith, append-nil}
+use Rattle.std.specs.Prelude.{FitsSigned, unwrap_or}
+use Rattle.std.specs.Int.{w16, w64}
+use Rattle.std.proofs.Common.{ℤ, pos, None, Some, ◌≡◌, ℕ, List, [], ◌∷◌, ◌++◌, map, length, Option, Result, Ok, Err, refl, sym, ap, ◌∙◌, arith, append-nil}
 use Rattle.std.specs.List.{cons_option}
 use Rattle.std.proofs.lemmas.List.{map-append, length-map}
 use Rattle.std.proofs.lemmas.List.Elements.{filter_map-append}
+use Rattle.ig_base.specs.Numbers.{LE}
+use Rattle.ig_wire.proofs.WriteLemmas.{ask_parts}
 use Rattle.ig_wire.specs.declared.hello.Hello.{Hello}
 use Rattle.ig_wire.specs.declared.hello.HelloFault.{HelloFault}
 use Rattle.ig_caches.specs.declared.call.Call.{Call}
 use Rattle.ig_deals.specs.Hellos.{Greeting, greeting_of}
-use Rattle.ig_deals.specs.Asks.{Asked, asked_in, asks_after, asks}
+use Rattle.ig_deals.specs.Asks.{Asked, operation_in, id_in, asked_in, asks_after, asks}
 use Rattle.ig_deals.specs.Deals.{Got, Ran, handed, gots, call_for, calls, Deal, deal_next, dealt}
 use Rattle.ig_deals.specs.Laws.{IsPrefix}
 
 -- ---- asks
+
+pub head_is_read : (operation id : ℤ) (fields : List ℕ) → FitsSigned w16 operation → FitsSigned w64 id
+    → (operation_in (LE w16 operation ++ LE w64 id ++ fields) ≡ operation) × (id_in (LE w16 operation ++ LE w64 id ++ fields) ≡ id)
+head_is_read operation id fields a b =
+    let parts = ask_parts operation id fields a b in
+    (ap (λ (o : Option ℤ). unwrap_or o (pos 0)) parts.0, ap (λ (o : Option ℤ). unwrap_or o (pos 0)) parts.1)
 
 pub asks_after-append : (g : Greeting) (bodies more : List (List ℕ)) → asks_after g (bodies ++ more) ≡ asks_after g bodies ++ asks_after g more
 asks_after-append (Ok hello) bodies more = map-append (asked_in hello.version) bodies more

@@ -14,22 +14,14 @@ use Rattle.ig_caches.specs.declared.request.Request.{Request}
 use Rattle.ig_caches.specs.declared.request.Request.TheVariants.{Run, Scan, NextPage, Close}
 use Rattle.ig_deals.specs.Faults.{fault_of}
 use Rattle.ig_deals.specs.Deals.{Got, Had, NoMemory, Deal}
-use Rattle.ig_deals.specs.Desk.{Cursor, Desk, fresh_desk, has_number, has_more, after_page, cursor_at, replaced}
+use Rattle.ig_deals.specs.Desk.{Cursor, Desk, fresh_desk, has_number, has_more, after_page, cursor_at, without}
 use Rattle.ig_deals.specs.Replies.{Fails, Reply, fits}
 use Rattle.ig_deals.specs.Turns.{Terms, Turn, untold, telling, answers, page_content, open_after, first_page, cursor_for, pairs_in, scan_answer, next_turn, close_turn, turn_for, turn}
 use Rattle.ig_deals.specs.OutFrames.{desk_after}
 use Rattle.ig_deals.specs.Laws.{IsDesk}
-use Rattle.ig_deals.proofs.CursorLemmas.{found-append, found_has, alone_none, other_number, earlier_number, replaced_other, open_other}
+use Rattle.ig_deals.proofs.CursorLemmas.{found-append, found_has, alone_none, other_number, earlier_number, without_other, without_few, without_fewer, open_other}
 
 -- ---- how many are open
-
-choice_few : (b : Bool) (now : List Cursor) (x : Cursor) (rest : List Cursor) (n : ℕ) → length now ≤ 1 → length rest ≤ n → length ((if b then now else x ∷ []) ++ rest) ≤ suc n
-choice_few true now x rest n one le = omega (arith, length-append now rest, one, le)
-choice_few false now x rest n one le = omega (arith, le)
-
-replaced_few : (k : ℤ) (cs now : List Cursor) → length now ≤ 1 → length (replaced cs k now) ≤ length cs
-replaced_few k [] now one = omega arith
-replaced_few k (x ∷ xs) now one = choice_few (has_number k x) now x (replaced xs k now) (length xs) one (replaced_few k xs now one)
 
 open_few : (b : Bool) (cursor : Cursor) → length (if b then cursor ∷ [] else []) ≤ 1
 open_few true cursor = omega arith
@@ -75,33 +67,41 @@ scan_desk terms desk id cache page answer (Some rows) is =
     (telling terms desk id answer.minor (page_content (Some (pos cursor.number)) cursor)) refl refl is
 scan_desk terms desk id cache page answer None is = same_desk desk (scan_answer terms desk id cache page answer None).desk refl refl is
 
--- an unused number stays unused where an open cursor is replaced
-replaced_unused : (b : Bool) (k : ℤ) (m : ℕ) (cs : List Cursor) (cursor : Cursor) (keep : Bool) → int_eq k (pos m) ≡ b → cursor_at cs k ≡ Some cursor → cursor_at cs (pos m) ≡ None
-    → cursor_at (replaced cs k (if keep then after_page cursor ∷ [] else [])) (pos m) ≡ None
-replaced_unused true k m cs cursor keep e found none =
+-- an unused number stays unused where an open cursor goes
+without_unused : (b : Bool) (k : ℤ) (m : ℕ) (cs : List Cursor) (cursor : Cursor) → int_eq k (pos m) ≡ b → cursor_at cs k ≡ Some cursor → cursor_at cs (pos m) ≡ None
+    → (cursor_at (without cs k) (pos m) ≡ None) × (has_number (pos m) cursor ≡ false)
+without_unused true k m cs cursor e found none =
     let here : cursor_at cs (pos m) ≡ Some cursor = ap (cursor_at cs) (sym ((Decides-int_eq k (pos m)).0 e)) ∙ found in absurd (apart here none) where
       apart : {o : Option Cursor} → o ≡ Some cursor → o ≡ None → ⊥
       apart h g = cc
-replaced_unused false k m cs cursor keep e found none =
-    replaced_other k (pos m) cs (if keep then after_page cursor ∷ [] else []) e
-    (open_other keep (pos m) (after_page cursor) (alone_none (pos m) (after_page cursor) (other_number k (pos m) cursor e (found_has k cs cursor found)))) ∙ none
+without_unused false k m cs cursor e found none = (without_other k (pos m) cs e ∙ none, other_number k (pos m) cursor e (found_has k cs cursor found))
 
-replaced_desk : (desk : Desk) (k : ℤ) (cursor : Cursor) (keep : Bool) → cursor_at desk.cursors k ≡ Some cursor → IsDesk desk
-    → IsDesk (record desk { cursors = replaced desk.cursors k (if keep then after_page cursor ∷ [] else []) })
-replaced_desk desk k cursor keep found is = record {
-  few =
-      let fewer : length (replaced desk.cursors k (if keep then after_page cursor ∷ [] else [])) ≤ length desk.cursors =
-          replaced_few k desk.cursors (if keep then after_page cursor ∷ [] else []) (open_few keep (after_page cursor)) in
-      let few : length desk.cursors ≤ most_cursors = is.few in omega (arith, fewer, few);
-  unused = λ m le. replaced_unused (int_eq k (pos m)) k m desk.cursors cursor keep refl found (is.unused m le);
+without_desk : (desk : Desk) (k : ℤ) (cursor : Cursor) → cursor_at desk.cursors k ≡ Some cursor → IsDesk desk → IsDesk (record desk { cursors = without desk.cursors k })
+without_desk desk k cursor found is = record {
+  few = let fewer : length (without desk.cursors k) ≤ length desk.cursors = without_few k desk.cursors in let few : length desk.cursors ≤ most_cursors = is.few in omega (arith, fewer, few);
+  unused = λ m le. (without_unused (int_eq k (pos m)) k m desk.cursors cursor refl found (is.unused m le)).0;
 }
 
+paged_desk : (desk : Desk) (k : ℤ) (cursor : Cursor) (keep : Bool) → cursor_at desk.cursors k ≡ Some cursor → IsDesk desk
+    → IsDesk (record desk { cursors = without desk.cursors k ++ (if keep then after_page cursor ∷ [] else []) })
+paged_desk desk k cursor keep found is =
+    let now : List Cursor = if keep then after_page cursor ∷ [] else [] in record {
+      few =
+          let fewer : length (without desk.cursors k) < length desk.cursors = without_fewer k desk.cursors cursor found in
+          let one : length now ≤ 1 = open_few keep (after_page cursor) in
+          let few : length desk.cursors ≤ most_cursors = is.few in omega (arith, length-append (without desk.cursors k) now, fewer, one, few);
+      unused = λ m le.
+          let both : (cursor_at (without desk.cursors k) (pos m) ≡ None) × (has_number (pos m) cursor ≡ false) =
+              without_unused (int_eq k (pos m)) k m desk.cursors cursor refl found (is.unused m le) in
+          found-append (pos m) (without desk.cursors k) now (open_other keep (pos m) (after_page cursor) (alone_none (pos m) (after_page cursor) both.1)) ∙ both.0;
+    }
+
 next_desk : (terms : Terms) (desk : Desk) (id k : ℤ) (o : Option Cursor) → cursor_at desk.cursors k ≡ o → IsDesk desk → IsDesk (next_turn terms desk id k o).desk
-next_desk terms desk id k (Some cursor) e is = replaced_desk desk k cursor (has_more cursor && fits terms.version (untold id (page_content None cursor))) e is
+next_desk terms desk id k (Some cursor) e is = paged_desk desk k cursor (has_more cursor && fits terms.version (untold id (page_content None cursor))) e is
 next_desk terms desk id k None e is = is
 
 close_desk : (terms : Terms) (desk : Desk) (id k : ℤ) (o : Option Cursor) → cursor_at desk.cursors k ≡ o → IsDesk desk → IsDesk (close_turn terms desk id k o).desk
-close_desk terms desk id k (Some cursor) e is = replaced_desk desk k cursor false e is
+close_desk terms desk id k (Some cursor) e is = without_desk desk k cursor e is
 close_desk terms desk id k None e is = is
 
 desk_for : (terms : Terms) (desk : Desk) (id : ℤ) (request : Result Request Fault) (got : Option Got) → IsDesk desk → IsDesk (turn_for terms desk id request got).desk

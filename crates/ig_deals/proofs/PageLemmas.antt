@@ -14,12 +14,12 @@ use Rattle.ig_caches.specs.declared.request.Request.{Request}
 use Rattle.ig_caches.specs.declared.request.Request.TheVariants.{Run, Scan, NextPage, Close}
 use Rattle.ig_deals.specs.Faults.{fault_of}
 use Rattle.ig_deals.specs.Deals.{Got, Had, NoMemory, Deal}
-use Rattle.ig_deals.specs.Desk.{Cursor, Desk, page_of, has_more, after_page, cursor_at, replaced}
+use Rattle.ig_deals.specs.Desk.{Cursor, Desk, page_of, has_more, after_page, cursor_at, without}
 use Rattle.ig_deals.specs.Replies.{Content, Fails, Reply, fits, too_long, shortened}
 use Rattle.ig_deals.specs.Turns.{Terms, Turn, untold, telling, answers, page_content, open_after, first_page, scanned, cursor_for, pairs_in, scan_answer, next_turn, close_turn, turn_for, turn}
 use Rattle.ig_deals.specs.OutFrames.{desk_after}
 use Rattle.ig_deals.specs.Laws.{rows_in, asks_page, pages_shown, HasLeft, ShowsOf, scan_deal}
-use Rattle.ig_deals.proofs.CursorLemmas.{found-append, found-after, found_has, alone_none, head-true, other_number, later_number, replaced_by, replaced_none, replaced_other, open_other}
+use Rattle.ig_deals.proofs.CursorLemmas.{found-append, found-after, found_has, alone_none, head-true, other_number, later_number, without_none, without_other, open_other}
 
 -- ---- what is shown in one step, and in two
 
@@ -76,11 +76,11 @@ no_rows v id told fault = by_length (fits v (record { id = id; told = told; cont
 -- ---- the next page of the cursor itself
 
 found_open : (more fit : Bool) (k : ℤ) (cs : List Cursor) (cursor : Cursor) → cursor_at cs k ≡ Some cursor
-    → cursor_at (replaced cs k (if more && fit then after_page cursor ∷ [] else [])) k ≡ left_open more fit cursor
-found_open true true k cs cursor e = replaced_by k cs cursor (after_page cursor) e (found_has k cs cursor e)
-found_open false true k cs cursor e = replaced_none k cs
-found_open true false k cs cursor e = replaced_none k cs
-found_open false false k cs cursor e = replaced_none k cs
+    → cursor_at (without cs k ++ (if more && fit then after_page cursor ∷ [] else [])) k ≡ left_open more fit cursor
+found_open true true k cs cursor e = found-after k (without cs k) (after_page cursor ∷ []) (without_none k cs) ∙ head-true k (after_page cursor) [] (found_has k cs cursor e)
+found_open false true k cs cursor e = found-after k (without cs k) [] (without_none k cs)
+found_open true false k cs cursor e = found-after k (without cs k) [] (without_none k cs)
+found_open false false k cs cursor e = found-after k (without cs k) [] (without_none k cs)
 
 next_shows : (terms : Terms) (desk : Desk) (id k : ℤ) (o : Option Cursor) → cursor_at desk.cursors k ≡ o
     → ShowsOf o (rows_in (next_turn terms desk id k o).reply.content) (cursor_at (next_turn terms desk id k o).desk.cursors k)
@@ -99,12 +99,13 @@ next_other : (terms : Terms) (desk : Desk) (id j k : ℤ) (o : Option Cursor) �
     → cursor_at (next_turn terms desk id j o).desk.cursors k ≡ cursor_at desk.cursors k
 next_other terms desk id j k (Some cursor) e other =
     let page : Reply = untold id (page_content None cursor) in
-    replaced_other j k desk.cursors (open_after terms.version page cursor) other
+    found-append k (without desk.cursors j) (open_after terms.version page cursor)
     (open_other (has_more cursor && fits terms.version page) k (after_page cursor) (alone_none k (after_page cursor) (other_number j k cursor other (found_has j desk.cursors cursor e))))
+    ∙ without_other j k desk.cursors other
 next_other terms desk id j k None e other = refl
 
 close_other : (terms : Terms) (desk : Desk) (id j k : ℤ) (o : Option Cursor) → int_eq j k ≡ false → cursor_at (close_turn terms desk id j o).desk.cursors k ≡ cursor_at desk.cursors k
-close_other terms desk id j k (Some cursor) other = replaced_other j k desk.cursors [] other refl
+close_other terms desk id j k (Some cursor) other = without_other j k desk.cursors other
 close_other terms desk id j k None other = refl
 
 close_keeps : (terms : Terms) (desk : Desk) (id k : ℤ) (o : Option Cursor) → (close_turn terms desk id k o).desk.next ≡ desk.next
@@ -112,7 +113,7 @@ close_keeps terms desk id k (Some cursor) = refl
 close_keeps terms desk id k None = refl
 
 close_shows : (terms : Terms) (desk : Desk) (id k : ℤ) (o : Option Cursor) → cursor_at desk.cursors k ≡ o → ShowsOf (cursor_at desk.cursors k) [] (cursor_at (close_turn terms desk id k o).desk.cursors k)
-close_shows terms desk id k (Some cursor) e = shows_closed (cursor_at desk.cursors k) (cursor_at (replaced desk.cursors k []) k) (replaced_none k desk.cursors)
+close_shows terms desk id k (Some cursor) e = shows_closed (cursor_at desk.cursors k) (cursor_at (without desk.cursors k) k) (without_none k desk.cursors)
 close_shows terms desk id k None e = shows_none (cursor_at desk.cursors k) (cursor_at desk.cursors k) refl
 
 -- ---- steps

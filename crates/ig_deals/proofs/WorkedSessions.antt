@@ -3,7 +3,7 @@ use Rattle.std.proofs.Common.{◌≡◌, ℕ, ℤ, pos, List, [], ◌∷◌, ◌
 use Rattle.ig_base.specs.Numbers.{LE}
 use Rattle.ig_base.specs.Frames.{Frame}
 use Rattle.ig_value.specs.declared.value.Value.TheVariants as value
-use Rattle.ig_value.specs.Objects.{object_bytes, refusal}
+use Rattle.ig_value.specs.Objects.{refusal}
 use Rattle.ig_value.specs.Reading.{object_at, reading}
 use Rattle.ig_caches.specs.declared.call.Pair.{Pair}
 use Rattle.ig_caches.specs.declared.answer.Answer.{Answer}
@@ -240,7 +240,7 @@ put_and_get :
     out_frames cfg session_manner (hello_1_0 ∷ put_body ∷ get_body ∷ [])
     (had (pos 0) Done ∷ had (pos 0) (Found (value.Int (pos 2))) ∷ [])
     ≡ accepted ∷ put_reply ∷ get_reply ∷ []
-unfolding out_frames greeting_of asked_in reading object_at refusal turn reply_body Frame LE object_bytes served_map nodes_below parts_on
+unfolding out_frames greeting_of asked_in reading object_at refusal turn reply_body Frame LE served_map nodes_below parts_on
 put_and_get = refl
 
 -- nothing follows a call that has no answer yet
@@ -248,7 +248,7 @@ waits_for_an_answer :
     out_frames cfg session_manner (hello_1_0 ∷ put_body ∷ unknown_body ∷ [])
     ([])
     ≡ accepted ∷ []
-unfolding out_frames greeting_of asked_in reading object_at refusal turn reply_body Frame LE object_bytes served_map nodes_below parts_on
+unfolding out_frames greeting_of asked_in reading object_at refusal turn reply_body Frame LE served_map nodes_below parts_on
 waits_for_an_answer = refl
 
 -- a refused call
@@ -256,7 +256,7 @@ no_cache :
     out_frames cfg session_manner (hello_1_0 ∷ lost_body ∷ [])
     (had (pos 0) (Refused NoCache) ∷ [])
     ≡ accepted ∷ lost_reply ∷ []
-unfolding out_frames greeting_of asked_in reading object_at refusal turn reply_body Frame LE object_bytes served_map nodes_below parts_on
+unfolding out_frames greeting_of asked_in reading object_at refusal turn reply_body Frame LE served_map nodes_below parts_on
 no_cache = refl
 
 -- requests that are refused need no answer
@@ -264,7 +264,7 @@ refused_requests :
     out_frames cfg session_manner (hello_1_0 ∷ unknown_body ∷ malformed_body ∷ null_body ∷ [])
     ([])
     ≡ accepted ∷ unknown_reply ∷ malformed_reply ∷ null_reply ∷ []
-unfolding out_frames greeting_of asked_in reading object_at refusal turn reply_body Frame LE object_bytes served_map nodes_below parts_on
+unfolding out_frames greeting_of asked_in reading object_at refusal turn reply_body Frame LE served_map nodes_below parts_on
 refused_requests = refl
 
 -- a scan of three rows by two, its next page, and one more
@@ -272,7 +272,7 @@ pages :
     out_frames cfg session_manner (hello_1_0 ∷ scan_body ∷ next_body ∷ next_body ∷ [])
     (had (pos 0) (Pairs (row (pos 1) ∷ row (pos 2) ∷ row (pos 3) ∷ [])) ∷ [])
     ≡ accepted ∷ first_reply ∷ second_reply ∷ closed_reply ∷ []
-unfolding out_frames greeting_of asked_in reading object_at refusal turn reply_body Frame LE object_bytes served_map nodes_below parts_on
+unfolding out_frames greeting_of asked_in reading object_at refusal turn reply_body Frame LE served_map nodes_below parts_on
 pages = refl
 
 -- a cursor is closed once
@@ -280,7 +280,7 @@ closes_a_cursor :
     out_frames cfg session_manner (hello_1_0 ∷ scan_body ∷ close_body ∷ close_body ∷ [])
     (had (pos 0) (Pairs (row (pos 1) ∷ row (pos 2) ∷ row (pos 3) ∷ [])) ∷ [])
     ≡ accepted ∷ first_reply ∷ close_reply ∷ closed_reply ∷ []
-unfolding out_frames greeting_of asked_in reading object_at refusal turn reply_body Frame LE object_bytes served_map nodes_below parts_on
+unfolding out_frames greeting_of asked_in reading object_at refusal turn reply_body Frame LE served_map nodes_below parts_on
 closes_a_cursor = refl
 
 -- at 1.4.0 the first answer tells the topology, and the others do not
@@ -288,7 +288,7 @@ tells_once :
     out_frames cfg session_manner (hello_1_4 ∷ put_body ∷ get_body ∷ lost_body ∷ [])
     (had (pos 0) Done ∷ had (pos 0) (Found (value.Int (pos 2))) ∷ had (pos 0) (Refused NoCache) ∷ [])
     ≡ accepted_1_4 ∷ told_put ∷ untold_get ∷ untold_lost ∷ []
-unfolding out_frames greeting_of asked_in reading object_at refusal turn reply_body Frame LE object_bytes served_map nodes_below parts_on
+unfolding out_frames greeting_of asked_in reading object_at refusal turn reply_body Frame LE served_map nodes_below parts_on
 tells_once = refl
 
 -- a refused call tells, too
@@ -296,7 +296,7 @@ a_refusal_tells :
     out_frames cfg session_manner (hello_1_4 ∷ lost_body ∷ [])
     (had (pos 0) (Refused NoCache) ∷ [])
     ≡ accepted_1_4 ∷ told_lost ∷ []
-unfolding out_frames greeting_of asked_in reading object_at refusal turn reply_body Frame LE object_bytes served_map nodes_below parts_on
+unfolding out_frames greeting_of asked_in reading object_at refusal turn reply_body Frame LE served_map nodes_below parts_on
 a_refusal_tells = refl
 
 -- a creation changes the topology
@@ -304,7 +304,7 @@ tells_a_change :
     out_frames cfg session_manner (hello_1_4 ∷ put_body ∷ create_body ∷ again_body ∷ [])
     (had (pos 0) Done ∷ had (pos 1) Done ∷ had (pos 1) (Refused CacheExists) ∷ [])
     ≡ accepted_1_4 ∷ told_put ∷ told_create ∷ untold_again ∷ []
-unfolding out_frames greeting_of asked_in reading object_at refusal turn reply_body Frame LE object_bytes served_map nodes_below parts_on
+unfolding out_frames greeting_of asked_in reading object_at refusal turn reply_body Frame LE served_map nodes_below parts_on
 tells_a_change = refl
 
 -- partition maps of no cache
@@ -312,7 +312,7 @@ parts_of_no_cache :
     out_frames cfg session_manner (hello_1_4 ∷ put_body ∷ parts_body ∷ [])
     (had (pos 0) Done ∷ had (pos 0) (Keys []) ∷ [])
     ≡ accepted_1_4 ∷ told_put ∷ parts_reply ∷ []
-unfolding out_frames greeting_of asked_in reading object_at refusal turn reply_body Frame LE object_bytes served_map nodes_below parts_on
+unfolding out_frames greeting_of asked_in reading object_at refusal turn reply_body Frame LE served_map nodes_below parts_on
 parts_of_no_cache = refl
 
 -- after a refused hello nothing is answered
@@ -320,7 +320,7 @@ refused_hello_answers_nothing :
     out_frames cfg session_manner (hello_1_7 ∷ put_body ∷ [])
     (had (pos 0) Done ∷ [])
     ≡ refused_hello ∷ []
-unfolding out_frames greeting_of asked_in reading object_at refusal turn reply_body Frame LE object_bytes served_map nodes_below parts_on
+unfolding out_frames greeting_of asked_in reading object_at refusal turn reply_body Frame LE served_map nodes_below parts_on
 refused_hello_answers_nothing = refl
 
 -- nor asked

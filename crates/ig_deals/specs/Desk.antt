@@ -1,6 +1,6 @@
 -- What a session remembers between its requests: open cursors, the next cursor's number, and the
 -- topology that it told last.
-use Rattle.std.specs.Prelude.{ℕ, ℤ, pos, negsuc, Bool, false, List, [], ◌∷◌, ◌++◌, length, take, drop, find, Option, None, nat_lt, ◌==◌, if◌then◌else◌}
+use Rattle.std.specs.Prelude.{ℕ, ℤ, pos, Bool, List, [], ◌∷◌, length, take, drop, find, Option, None, nat_lt, if◌then◌else◌}
 use Rattle.std.specs.Ordering.{int_eq}
 use Rattle.ig_caches.specs.declared.call.Pair.{Pair}
 
@@ -44,8 +44,8 @@ has_number number cursor = int_eq (pos cursor.number) number
 abbrev pub cursor_at : List Cursor → ℤ → Option Cursor
 cursor_at cursors number = find (has_number number) cursors
 
--- the open cursors, with these in the place of the one with a number
-abbrev pub replaced : List Cursor → ℤ → List Cursor → List Cursor
-replaced [] number now = []
-replaced (cursor ∷ cursors) number now =
-    (if has_number number cursor then now else cursor ∷ []) ++ replaced cursors number now
+-- the open cursors without the one with a number
+abbrev pub without : List Cursor → ℤ → List Cursor
+without [] number = []
+without (cursor ∷ cursors) number =
+    if has_number number cursor then without cursors number else cursor ∷ without cursors number

@@ -1,12 +1,15 @@
 -- Laws of asks, deals, desks and frames.
-use Rattle.std.specs.Prelude.{◌≡◌, ◌≢◌, ℕ, ◌<◌, ◌≤◌, ℤ, pos, Bool, false, List, [], ◌∷◌, ◌++◌, map, length, Option, None, Some, Result, Ok, Err, if◌then◌else◌}
+use Rattle.std.specs.Prelude.{◌≡◌, ◌≢◌, ℕ, ◌<◌, ◌≤◌, ℤ, pos, Bool, false, List, [], ◌∷◌, ◌++◌, map, length, Option, None, Some, Result, Ok, Err, if◌then◌else◌, FitsSigned}
+use Rattle.std.specs.Int.{w16, w64}
 use Rattle.std.specs.Ordering.{int_eq}
+use Rattle.ig_base.specs.Numbers.{LE}
 use Rattle.ig_base.specs.Frames.{client, Begins, Cut}
 use Rattle.ig_wire.specs.declared.version.Version.{Version}
 use Rattle.ig_wire.specs.declared.hello.Hello.{Hello}
 use Rattle.ig_wire.specs.declared.hello.HelloFault.{HelloFault}
 use Rattle.ig_wire.specs.declared.head.Fault.{Fault}
 use Rattle.ig_wire.specs.Limits.{most_cursors}
+use Rattle.ig_fields.specs.TableLaws.{AskedIsRight, OneRightAsk}
 use Rattle.ig_caches.specs.declared.call.Pair.{Pair}
 use Rattle.ig_caches.specs.declared.answer.Outcome.TheVariants.{Pairs}
 use Rattle.ig_caches.specs.declared.request.Request.{Request}
@@ -18,7 +21,7 @@ use Rattle.ig_deals.specs.declared.end.SessionEnd.TheVariants as ends
 use Rattle.ig_deals.specs.declared.manner.Manner.{Manner}
 use Rattle.ig_deals.specs.declared.manner.Manner.TheVariants.{AtChanges}
 use Rattle.ig_deals.specs.Hellos.{greeting_of}
-use Rattle.ig_deals.specs.Asks.{Asked, asks}
+use Rattle.ig_deals.specs.Asks.{Asked, served_at, operation_in, id_in, asks}
 use Rattle.ig_deals.specs.Deals.{Got, Had, Ran, handed, gots, calls, Deal, dealt}
 use Rattle.ig_deals.specs.Desk.{Cursor, Desk, fresh_desk, cursor_at}
 use Rattle.ig_deals.specs.Replies.{Content, Shows, Reply}
@@ -31,6 +34,21 @@ abbrev pub IsPrefix : {A : Type 0} → List A → List A → Type 0
 IsPrefix {A} xs ys = (rest : List A) × (xs ++ rest ≡ ys)
 
 -- ---- asks
+
+-- A body begins with its operation and its identifier.
+abbrev pub HeadIsRead : Type 0
+HeadIsRead =
+    (operation id : ℤ) (fields : List ℕ) → FitsSigned w16 operation → FitsSigned w64 id
+    → (operation_in (LE w16 operation ++ LE w64 id ++ fields) ≡ operation)
+    × (id_in (LE w16 operation ++ LE w64 id ++ fields) ≡ id)
+
+-- what a body asks at a version is what its fields spell by the row of its operation
+abbrev pub RequestsAreRight : Type 0
+RequestsAreRight = (v : Version) → AskedIsRight (served_at v)
+
+-- and nothing else is right
+abbrev pub OneRequestIsRight : Type 0
+OneRequestIsRight = (v : Version) → OneRightAsk (served_at v)
 
 -- more bodies ask more
 abbrev pub AsksGrow : Type 0

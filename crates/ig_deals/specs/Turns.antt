@@ -21,7 +21,7 @@ use Rattle.ig_deals.specs.declared.manner.Manner.{Manner}
 use Rattle.ig_deals.specs.Faults.{fault_of, reason_of}
 use Rattle.ig_deals.specs.Asks.{Asked}
 use Rattle.ig_deals.specs.Deals.{Got, Had, NoMemory, Deal}
-use Rattle.ig_deals.specs.Desk.{Cursor, Desk, page_of, has_more, after_page, cursor_at, replaced}
+use Rattle.ig_deals.specs.Desk.{Cursor, Desk, page_of, has_more, after_page, cursor_at, without}
 use Rattle.ig_deals.specs.Telling.{topology, tells, told_after}
 use Rattle.ig_deals.specs.Replies.{Content, Shows, Maps, Fails, Reply, fits, shortened}
 
@@ -136,11 +136,11 @@ scan_turn terms desk id cache page None = no_memory terms desk id
 abbrev pub no_resource : Terms → Desk → ℤ → Turn
 no_resource terms desk id = stays terms desk id (Fails (fault_of reason.NoResource))
 
--- the next page of a cursor
+-- the next page of a cursor, which comes after the other ones then, if it is still open
 abbrev pub next_page : Terms → Desk → ℤ → Cursor → Reply → Turn
 next_page terms desk number cursor page = record {
   reply = shortened terms.version page;
-  desk = record desk { cursors = replaced desk.cursors number (open_after terms.version page cursor) };
+  desk = record desk { cursors = without desk.cursors number ++ open_after terms.version page cursor };
 }
 
 abbrev pub next_turn : Terms → Desk → ℤ → ℤ → Option Cursor → Turn
@@ -149,7 +149,7 @@ next_turn terms desk id number None = no_resource terms desk id
 
 -- a cursor is closed without its rows being shown
 abbrev pub close_turn : Terms → Desk → ℤ → ℤ → Option Cursor → Turn
-close_turn terms desk id number (Some cursor) = stays terms (record desk { cursors = replaced desk.cursors number [] }) id (Shows (Out outcome.Done))
+close_turn terms desk id number (Some cursor) = stays terms (record desk { cursors = without desk.cursors number }) id (Shows (Out outcome.Done))
 close_turn terms desk id number None = no_resource terms desk id
 
 -- ---- requests

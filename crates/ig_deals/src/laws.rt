@@ -1,7 +1,14 @@
 //! Laws of what a session is asked and what it replies. These functions do nothing; their contracts
 //! say what holds of all lists.
 
-ghost use Rattle.ig_deals.specs.Laws.{AsksGrow, RefusedAsksNothing, CallsGrow, DealsGrow, AllAreDealt, FirstAreDealt, DealsStay, RepliesGrow, OneReplyEach, FramesGrow, FramesStay, OwnReplyAlone, PagesAreRows, FirstPageIsFirst, DesksStay, FreshIsDesk, LastIsCutOff, PartIsPrefix, EndsCut};
+ghost use Rattle.ig_deals.specs.Laws.{HeadIsRead, RequestsAreRight, OneRequestIsRight, AsksGrow, RefusedAsksNothing, CallsGrow, DealsGrow, AllAreDealt, FirstAreDealt, DealsStay, RepliesGrow, OneReplyEach, FramesGrow, FramesStay, OwnReplyAlone, PagesAreRows, FirstPageIsFirst, DesksStay, FreshIsDesk, LastIsCutOff, PartIsPrefix, EndsCut};
+
+/// What a body asks is what its operation, its identifier and its fields say, and nothing else.
+pub fn requests_are_right()
+    ensures head { HeadIsRead }
+    ensures right { RequestsAreRight }
+    ensures only { OneRequestIsRight }
+{}
 
 /// More bodies ask more, and change nothing of what was asked. After a refused hello nothing is
 /// asked.
