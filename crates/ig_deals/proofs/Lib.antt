@@ -5,4 +5,5 @@ pub mod CursorLemmas
 pub mod PageLemmas
 pub mod DeskLemmas
 pub mod CutLemmas
+pub mod TakeLemmas
 mod WorkedSessions

@@ -2,6 +2,7 @@
 use Rattle.std.specs.Prelude.{nat_le}
 use Rattle.std.proofs.Common.{◌≡◌, ℕ, ℤ, pos, Bool, true, false, if◌then◌else◌, List, [], ◌∷◌, ◌++◌, length, Option, None, Some, Ok, refl, ap, ◌∙◌}
 use Rattle.std.specs.Int.{w32}
+use Rattle.std.specs.Fmt.{digits}
 use Rattle.std.specs.Str.{is_utf8, chars}
 use lib.Utf8.{encode}
 use Rattle.std.proofs.lemmas.Bool.{cond-true}
@@ -269,7 +270,7 @@ refused_requests :
     out_frames cfg session_manner (hello_1_0 ∷ unknown_body ∷ malformed_body ∷ null_body ∷ [])
     ([])
     ≡ accepted ∷ unknown_reply ∷ malformed_reply ∷ null_reply ∷ []
-unfolding greeting_of asked_in reading object_at refusal turn reply_body Frame LE served_map nodes_below parts_on is_utf8 chars encode
+unfolding greeting_of asked_in reading object_at refusal turn reply_body Frame LE served_map nodes_below parts_on is_utf8 chars encode digits
 refused_requests = refl
 
 -- a refused call tells, too

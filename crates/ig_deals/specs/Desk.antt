@@ -1,6 +1,7 @@
 -- What a session remembers between its requests: open cursors, the next cursor's number, and the
 -- topology that it told last.
-use Rattle.std.specs.Prelude.{ℕ, ℤ, pos, Bool, List, [], ◌∷◌, length, take, drop, find, Option, None, nat_lt, if◌then◌else◌}
+use Rattle.std.specs.Prelude.{◌≡◌, ℕ, ℤ, pos, Bool, List, [], ◌∷◌, length, take, drop, find, Option, None, nat_lt, if◌then◌else◌}
+use Rattle.std.specs.List.{position}
 use Rattle.std.specs.Ordering.{int_eq}
 use Rattle.ig_caches.specs.declared.call.Pair.{Pair}
 
@@ -49,3 +50,12 @@ abbrev pub without : List Cursor → ℤ → List Cursor
 without [] number = []
 without (cursor ∷ cursors) number =
     if has_number number cursor then without cursors number else cursor ∷ without cursors number
+
+-- no two cursors have one number
+abbrev pub AreApart : List Cursor → Type 0
+AreApart [] = Unit {0}
+AreApart (cursor ∷ cursors) = (cursor_at cursors (pos cursor.number) ≡ None) × AreApart cursors
+
+-- the place of the first open cursor with a number
+unfoldable pub place_of_number : List Cursor → ℤ → Option ℕ
+place_of_number cursors number = position (has_number number) cursors

@@ -1,5 +1,8 @@
 //! What a session remembers between its requests.
 
+ghost use Rattle.std.specs.Prelude.{◌≡◌};
+ghost use Rattle.ig_deals.specs.Desk.{place_of_number};
+
 use crate::manner::Manner;
 use crate::open_cursor::OpenCursor;
 use ig_base::{NoMemory, Topology};
@@ -21,7 +24,7 @@ impl Model for Desk {
     ghost use Rattle.std.specs.Coded.{codes};
     ghost use Rattle.ig_wire.specs.Limits.{most_cursors};
     ghost use Rattle.ig_deals.specs.contracts.open_cursor.OpenCursor as cursor;
-    ghost use Rattle.ig_deals.specs.Desk.{Desk};
+    ghost use Rattle.ig_deals.specs.Desk.{Desk, AreApart};
 
     ghost Value = { Desk };
 
@@ -29,13 +32,21 @@ impl Model for Desk {
 
     ghost view = { λ d. record { cursors = d.cursors.items; next = d.next; told = d.told } };
 
-    ghost invariant = { λ d. most_cursors ≤ vec_capacity d.cursors };
+    ghost invariant = { λ d. (most_cursors ≤ vec_capacity d.cursors) × AreApart d.cursors.items };
+}
+
+/// The index of the cursor with a number.
+#[tactic(auto, unfolding(crate::specs::Desk::place_of_number))]
+fn index_of(cursors: &[OpenCursor], number: i64) -> Option<usize>
+    ensures { result ≡ place_of_number cursors.now number }
+{
+    cursors.iter().position(|cursor| cursor.has_number(number))
 }
 
 impl Desk {
-    ghost use Rattle.std.specs.Prelude.{◌≡◌, ◌<◌, ◌^◌, ◌++◌, [], ◌∷◌, suc, length, nat_le, IfOk};
+    ghost use Rattle.std.specs.Prelude.{◌≡◌, pos, None, ◌<◌, ◌^◌, ◌++◌, [], ◌∷◌, suc, length, nat_le, IfOk};
     ghost use Rattle.ig_wire.specs.Limits.{most_cursors};
-    ghost use Rattle.ig_deals.specs.Desk.{fresh_desk};
+    ghost use Rattle.ig_deals.specs.Desk.{fresh_desk, cursor_at, without};
     ghost use Rattle.ig_deals.specs.Telling.{tells, told_after};
 
     /// A desk without cursors, of which the first gets the number 1; nothing was told. It takes the room
@@ -75,10 +86,22 @@ impl Desk {
 
     /// Opens a cursor, after the other ones. Takes no memory.
     pub fn open(&mut self, cursor: OpenCursor)
-        requires { length self.old.cursors < most_cursors }
+        requires room { length self.old.cursors < most_cursors }
+        requires unused { cursor_at self.old.cursors (pos cursor.number) ≡ None }
         ensures { self.new ≡ record self.old { cursors = self.old.cursors ++ cursor ∷ [] } }
     {
         let _room = self.cursors.push(cursor).is_ok();
+    }
+
+    /// Takes the open cursor with a number out of the others, if there is one. Takes no memory.
+    pub fn take(&mut self, number: i64) -> Option<OpenCursor>
+        ensures taken { result ≡ cursor_at self.old.cursors number }
+        ensures left { self.new ≡ record self.old { cursors = without self.old.cursors number } }
+    {
+        match index_of(&self.cursors, number) {
+            Some(index) => Some(self.cursors.remove(index)),
+            None => None,
+        }
     }
 
     /// What the reply to a grid call tells of the topology whose answer has this minor version.

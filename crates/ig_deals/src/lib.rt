@@ -1,5 +1,20 @@
-//! What a session is asked, what its calls are given, and what it replies: the definitions that a
-//! session is proved against, and its plain states.
+//! What a session is asked, what its calls are given, and what it replies.
+//!
+//! The files of `specs/` define this as functions on lists, which contracts of a session cite:
+//!
+//! ```text
+//!   bodies --asks--> requests --calls--> calls          run by the grid, which gives results
+//!                        \                                   |
+//!                         +------- dealt ------- results ----+
+//!                                    |
+//!                                  deals --replies (a turn at the desk each)--> frames
+//! ```
+//!
+//! `Serves` says how the input, the output, the calls and the end of a whole session belong together.
+//! The functions of `laws` do nothing; their contracts are the laws of these definitions.
+//!
+//! [`Desk`], [`OpenCursor`] and [`Manner`] are what a session remembers, as its code keeps it. Running
+//! calls, reading bodies and writing frames is left to the session.
 #![tactic(auto)]
 
 mod cfg;

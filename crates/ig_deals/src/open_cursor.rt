@@ -32,7 +32,7 @@ impl Model for OpenCursor {
 
 impl OpenCursor {
     ghost use Rattle.std.specs.Prelude.{◌≡◌};
-    ghost use Rattle.ig_deals.specs.Desk.{page_of, has_more, after_page};
+    ghost use Rattle.ig_deals.specs.Desk.{has_number, page_of, has_more, after_page};
 
     /// A cursor of which no row was shown. Takes no memory.
     pub fn new(number: u64, page: u32, rows: Items<Pair>) -> OpenCursor
@@ -51,6 +51,16 @@ impl OpenCursor {
         ensures { result ≡ self.now.number }
     {
         self.number
+    }
+
+    /// Whether the cursor has this number.
+    pub fn has_number(&self, number: i64) -> bool
+        ensures { result ≡ has_number number self.now }
+    {
+        match u64::try_from(number) {
+            Ok(number) => self.number == number,
+            Err(_) => false,
+        }
     }
 
     /// The rows of the next page.
