@@ -40,7 +40,7 @@ pub part_is_prefix : (frames : List (List ℕ)) (output : List ℕ) → ShowsPar
 part_is_prefix frames output p = (
   p.missing,
   ap (λ (l : List ℕ). l ++ p.missing) p.output_is ∙ append_assoc (joined p.whole) p.prefix p.missing ∙ ap (λ (l : List ℕ). joined p.whole ++ l) (sym p.cut)
-  ∙ sym (joined-append p.whole p.last) ∙ ap joined (sym p.frames_are),
+      ∙ sym (joined-append p.whole p.last) ∙ ap joined (sym p.frames_are),
 )
 
 fewer_are_shown : (fewer frames : List (List ℕ)) (output : List ℕ) → IsPrefix fewer frames → length fewer < length frames → ShowsPart frames output → IsPrefix (joined fewer) output
@@ -86,7 +86,7 @@ short_frames : (cfg : SessionCfg) (manner_at : Version → Manner) (bodies : Lis
 short_frames cfg manner_at [] gs hs all lt = absurd (omega (arith, all, lt))
 short_frames cfg manner_at (hello ∷ bodies) gs hs all lt =
     let less : length (frames_after cfg manner_at (greeting_of hello) (asks_after (greeting_of hello) bodies) gs) < length (frames_after cfg manner_at (greeting_of hello) (asks_after (greeting_of hello) bodies) hs) =
-        short_after cfg manner_at (greeting_of hello) bodies gs hs all lt in
+    short_after cfg manner_at (greeting_of hello) bodies gs hs all lt in
     omega (arith, less)
 
 pub last_is_cut_off : (cfg : SessionCfg) (manner_at : Version → Manner) (bodies : List (List ℕ)) (ran : List Ran) (last : Ran) (output : List ℕ) → handed (ran ++ last ∷ []) ≡ calls (asks bodies)
@@ -99,7 +99,7 @@ last_is_cut_off cfg manner_at bodies ran last output e p =
     let shown : ShowsPart (out_frames cfg manner_at bodies (gots ran ++ last.got ∷ [])) output = subst (λ (gs : List Got). ShowsPart (out_frames cfg manner_at bodies gs) output) both p in
     let same : IsPrefix (out_frames cfg manner_at bodies (gots ran)) (out_frames cfg manner_at (bodies ++ []) (gots ran ++ last.got ∷ [])) = frames_stay cfg manner_at bodies [] (gots ran) (last.got ∷ []) in
     let fewer : IsPrefix (out_frames cfg manner_at bodies (gots ran)) (out_frames cfg manner_at bodies (gots ran ++ last.got ∷ [])) =
-        (same.0, same.1 ∙ ap (λ (l : List (List ℕ)). out_frames cfg manner_at l (gots ran ++ last.got ∷ [])) (append-nil bodies)) in
+    (same.0, same.1 ∙ ap (λ (l : List (List ℕ)). out_frames cfg manner_at l (gots ran ++ last.got ∷ [])) (append-nil bodies)) in
     fewer_are_shown (out_frames cfg manner_at bodies (gots ran)) (out_frames cfg manner_at bodies (gots ran ++ last.got ∷ [])) output fewer (short_frames cfg manner_at bodies (gots ran) (gots ran ++ last.got ∷ []) all less) shown
 
 -- ---- all whole frames were read

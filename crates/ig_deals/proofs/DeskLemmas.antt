@@ -92,7 +92,7 @@ paged_desk desk k cursor keep found is =
           let few : length desk.cursors ≤ most_cursors = is.few in omega (arith, length-append (without desk.cursors k) now, fewer, one, few);
       unused = λ m le.
           let both : (cursor_at (without desk.cursors k) (pos m) ≡ None) × (has_number (pos m) cursor ≡ false) =
-              without_unused (int_eq k (pos m)) k m desk.cursors cursor refl found (is.unused m le) in
+          without_unused (int_eq k (pos m)) k m desk.cursors cursor refl found (is.unused m le) in
           found-append (pos m) (without desk.cursors k) now (open_other keep (pos m) (after_page cursor) (alone_none (pos m) (after_page cursor) both.1)) ∙ both.0;
     }
 

@@ -75,7 +75,7 @@ frames_stay_after cfg manner_at (Ok hello) bodies more given later =
     let stays : IsPrefix (dealt one given) (dealt (one ++ two) (given ++ later)) = deals_stay one two given later in (
       reply_frames terms (desk_after terms fresh_desk (dealt one given)) stays.0,
       sym (reply_frames-append terms fresh_desk (dealt one given) stays.0) ∙ ap (reply_frames terms fresh_desk) stays.1
-      ∙ ap (λ (l : List Asked). reply_frames terms fresh_desk (dealt l (given ++ later))) (sym (asks_after-append (Ok hello) bodies more)),
+          ∙ ap (λ (l : List Asked). reply_frames terms fresh_desk (dealt l (given ++ later))) (sym (asks_after-append (Ok hello) bodies more)),
     )
 frames_stay_after cfg manner_at (Err fault) bodies more given later = ([], refl)
 
@@ -84,7 +84,7 @@ pub frames_stay : (cfg : SessionCfg) (manner_at : Version → Manner) (bodies mo
 frames_stay cfg manner_at [] more given later = (out_frames cfg manner_at more (given ++ later), refl)
 frames_stay cfg manner_at (hello ∷ bodies) more given later =
     let after : IsPrefix (frames_after cfg manner_at (greeting_of hello) (asks_after (greeting_of hello) bodies) given) (frames_after cfg manner_at (greeting_of hello) (asks_after (greeting_of hello) (bodies ++ more)) (given ++ later)) =
-        frames_stay_after cfg manner_at (greeting_of hello) bodies more given later in
+    frames_stay_after cfg manner_at (greeting_of hello) bodies more given later in
     (after.0, ap (λ (l : List (List ℕ)). hello_frame cfg hello ∷ l) after.1)
 
 -- ---- identifiers

@@ -56,7 +56,7 @@ place_from k (x ∷ xs) from n e = elim (cases_Bool (has_number k x)) [
       (0, first same, here k x xs h)
   | inr h ↦
       let p : (at : ℕ) × (n ≡ from + 1 + at) × IsPlace k xs at =
-          place_from k xs (from + 1) n (sym (cond-false (has_number k x) (Some from) (position_from (has_number k) (from + 1) xs) h) ∙ e) in
+      place_from k xs (from + 1) n (sym (cond-false (has_number k x) (Some from) (position_from (has_number k) (from + 1) xs) h) ∙ e) in
       (suc p.0, omega (arith, p.1), later k x xs p.0 h p.2)
 ] where
   first : {a b : ℕ} → Some a ≡ Some b → b ≡ a + 0

@@ -412,11 +412,11 @@ first_body : reply_body version_1_0 first_said ≡ first_bytes
 unfolding reply_body LE
 first_body =
     ap (λ (l : List ℕ).
-      1 ∷ 0 ∷ 0 ∷ 0 ∷ 0 ∷ 0 ∷ 0 ∷ 0 ∷ 0 ∷ 0 ∷ 0 ∷ 0 ∷ 1 ∷ 0 ∷ 0 ∷ 0 ∷ 0 ∷ 0 ∷ 0 ∷ 0 ∷ 2 ∷ 0 ∷ 0 ∷ 0
-      ∷ ((l ++ l ++ (Canon (value.Int (pos 2)) ++ Canon (value.Int (pos 2)) ++ [])) ++ 1 ∷ [])) (int_bytes (pos 1))
+    1 ∷ 0 ∷ 0 ∷ 0 ∷ 0 ∷ 0 ∷ 0 ∷ 0 ∷ 0 ∷ 0 ∷ 0 ∷ 0 ∷ 1 ∷ 0 ∷ 0 ∷ 0 ∷ 0 ∷ 0 ∷ 0 ∷ 0 ∷ 2 ∷ 0 ∷ 0 ∷ 0
+    ∷ ((l ++ l ++ (Canon (value.Int (pos 2)) ++ Canon (value.Int (pos 2)) ++ [])) ++ 1 ∷ [])) (int_bytes (pos 1))
     ∙ ap (λ (l : List ℕ).
-      1 ∷ 0 ∷ 0 ∷ 0 ∷ 0 ∷ 0 ∷ 0 ∷ 0 ∷ 0 ∷ 0 ∷ 0 ∷ 0 ∷ 1 ∷ 0 ∷ 0 ∷ 0 ∷ 0 ∷ 0 ∷ 0 ∷ 0 ∷ 2 ∷ 0 ∷ 0 ∷ 0
-      ∷ 3 ∷ 1 ∷ 0 ∷ 0 ∷ 0 ∷ 3 ∷ 1 ∷ 0 ∷ 0 ∷ 0 ∷ ((l ++ l ++ []) ++ 1 ∷ [])) (int_bytes (pos 2))
+    1 ∷ 0 ∷ 0 ∷ 0 ∷ 0 ∷ 0 ∷ 0 ∷ 0 ∷ 0 ∷ 0 ∷ 0 ∷ 0 ∷ 1 ∷ 0 ∷ 0 ∷ 0 ∷ 0 ∷ 0 ∷ 0 ∷ 0 ∷ 2 ∷ 0 ∷ 0 ∷ 0
+    ∷ 3 ∷ 1 ∷ 0 ∷ 0 ∷ 0 ∷ 3 ∷ 1 ∷ 0 ∷ 0 ∷ 0 ∷ ((l ++ l ++ []) ++ 1 ∷ [])) (int_bytes (pos 2))
 
 last_body : reply_body version_1_0 last_said ≡ last_bytes
 unfolding reply_body LE

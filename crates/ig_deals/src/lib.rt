@@ -33,3 +33,6 @@ pub use laws::{
 };
 pub use manner::Manner;
 pub use open_cursor::OpenCursor;
+
+#[cfg(test)]
+mod tests;

@@ -22,14 +22,22 @@ impl Manner {
     pub fn of_session(version: Version) -> Manner
         ensures { result ≡ session_manner version }
     {
-        if version.has_flags() { Manner::AtChanges } else { Manner::Never }
+        if version.has_flags() {
+            Manner::AtChanges
+        } else {
+            Manner::Never
+        }
     }
 
     /// How a crew tells the topology: its replies come in any order, so each tells its own.
     pub fn of_crew(version: Version) -> Manner
         ensures { result ≡ crew_manner version }
     {
-        if version.has_flags() { Manner::Always } else { Manner::Never }
+        if version.has_flags() {
+            Manner::Always
+        } else {
+            Manner::Never
+        }
     }
 
     /// What the reply to a grid call tells: `minor` is that of the call's answer, and `last` what was

@@ -69,7 +69,11 @@ impl OpenCursor {
     {
         let left = &self.rows.as_slice()[self.shown..];
         let page = self.page as usize;
-        if page < left.len() { &left[..page] } else { left }
+        if page < left.len() {
+            &left[..page]
+        } else {
+            left
+        }
     }
 
     /// Whether rows are left after the next page.
