@@ -1,5 +1,5 @@
 -- A request that looks at no cursor gets the same reply at every desk, and leaves the desk as it is.
-use Rattle.std.proofs.Common.{None, Some, ◌≡◌, ◌≢◌, ℕ, ℤ, List, [], ◌∷◌, ◌++◌, Option, Result, Ok, Err, refl, ap, ◌∙◌}
+use Rattle.std.proofs.Common.{None, Some, ◌≡◌, ◌≢◌, ℤ, List, [], ◌∷◌, ◌++◌, Option, Result, Ok, Err, refl, ap}
 use Rattle.ig_wire.specs.declared.version.Version.{Version}
 use Rattle.ig_wire.specs.declared.head.Fault.{Fault}
 use Rattle.ig_caches.specs.declared.call.Call.{Call}

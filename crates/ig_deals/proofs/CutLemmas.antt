@@ -1,9 +1,9 @@
 -- Outputs that are cut off, and the bodies that a session read.
-use Rattle.std.proofs.Common.{None, Some, ◌≡◌, ℕ, suc, ◌+◌, ◌<◌, ◌≤◌, List, [], ◌∷◌, ◌++◌, map, length, Option, Result, Ok, Err, refl, sym, ap, ◌∙◌, subst, arith, append-nil, append_assoc}
+use Rattle.std.proofs.Common.{None, Some, ◌≡◌, ℕ, suc, ◌+◌, ◌<◌, ◌≤◌, List, [], ◌∷◌, ◌++◌, length, Option, Ok, Err, refl, sym, ap, ◌∙◌, subst, arith, append-nil, append_assoc}
 use Rattle.std.specs.List.{cons_option}
 use Rattle.std.proofs.lemmas.Grind.{flat_map-append}
 use Rattle.std.proofs.lemmas.List.{map-append, length-map, length-append}
-use Rattle.ig_base.specs.Frames.{client, max_body, least_after, Begins, Front, Body, Incomplete, Bad, front, HasNoFrame, Cut}
+use Rattle.ig_base.specs.Frames.{client, max_body, least_after, Begins, front, HasNoFrame, Cut}
 use Rattle.ig_wire.specs.declared.version.Version.{Version}
 use Rattle.ig_caches.specs.declared.call.Call.{Call}
 use Rattle.ig_deals.specs.declared.cfg.SessionCfg.{SessionCfg}

@@ -1,13 +1,12 @@
 -- Asks and deals of longer lists.
 use Rattle.std.specs.Prelude.{FitsSigned, unwrap_or}
 use Rattle.std.specs.Int.{w16, w64}
-use Rattle.std.proofs.Common.{ℤ, pos, None, Some, ◌≡◌, ℕ, List, [], ◌∷◌, ◌++◌, map, length, Option, Result, Ok, Err, refl, sym, ap, ◌∙◌, arith, append-nil}
+use Rattle.std.proofs.Common.{ℤ, pos, None, Some, ◌≡◌, ℕ, List, [], ◌∷◌, ◌++◌, map, length, Option, Ok, Err, refl, sym, ap, ◌∙◌, arith}
 use Rattle.std.specs.List.{cons_option}
 use Rattle.std.proofs.lemmas.List.{map-append, length-map}
 use Rattle.std.proofs.lemmas.List.Elements.{filter_map-append}
 use Rattle.ig_base.specs.Numbers.{LE}
 use Rattle.ig_wire.proofs.WriteLemmas.{ask_parts}
-use Rattle.ig_wire.specs.declared.hello.Hello.{Hello}
 use Rattle.ig_wire.specs.declared.hello.HelloFault.{HelloFault}
 use Rattle.ig_caches.specs.declared.call.Call.{Call}
 use Rattle.ig_deals.specs.Hellos.{Greeting, greeting_of}

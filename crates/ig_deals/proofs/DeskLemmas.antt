@@ -1,6 +1,6 @@
 -- No more cursors are open than may be, and each new one gets a number that none has.
 use Rattle.std.specs.Prelude.{◌&&◌, nat_le}
-use Rattle.std.proofs.Common.{None, Some, ◌≡◌, ℕ, suc, ◌<◌, ◌≤◌, ℤ, pos, Bool, true, false, if◌then◌else◌, List, [], ◌∷◌, ◌++◌, length, Option, Result, Ok, Err, refl, sym, ap, ◌∙◌, subst, arith, append-nil}
+use Rattle.std.proofs.Common.{None, Some, ◌≡◌, ℕ, ◌<◌, ◌≤◌, ℤ, pos, Bool, true, false, if◌then◌else◌, List, [], ◌∷◌, ◌++◌, length, Option, Result, Ok, Err, refl, sym, ap, ◌∙◌, subst, arith, append-nil}
 use Rattle.std.specs.Ordering.{int_eq}
 use Rattle.std.proofs.lemmas.Bool.{leb-false}
 use Rattle.std.proofs.lemmas.Bool.Decides.{Decides-int_eq}
@@ -16,7 +16,7 @@ use Rattle.ig_deals.specs.Faults.{fault_of}
 use Rattle.ig_deals.specs.Deals.{Got, Had, NoMemory, Deal}
 use Rattle.ig_deals.specs.Desk.{Cursor, Desk, fresh_desk, has_number, has_more, after_page, cursor_at, without}
 use Rattle.ig_deals.specs.Replies.{Fails, Reply, fits}
-use Rattle.ig_deals.specs.Turns.{Terms, Turn, untold, telling, answers, page_content, open_after, first_page, cursor_for, pairs_in, scan_answer, next_turn, close_turn, turn_for, turn}
+use Rattle.ig_deals.specs.Turns.{Terms, untold, telling, answers, page_content, open_after, first_page, cursor_for, pairs_in, scan_answer, next_turn, close_turn, turn_for, turn}
 use Rattle.ig_deals.specs.OutFrames.{desk_after}
 use Rattle.ig_deals.specs.Laws.{IsDesk}
 use Rattle.ig_deals.proofs.CursorLemmas.{found-append, found_has, alone_none, other_number, earlier_number, without_other, without_few, without_fewer, open_other}

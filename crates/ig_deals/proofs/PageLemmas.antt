@@ -1,6 +1,6 @@
 -- What pages show of a cursor's rows.
 use Rattle.std.specs.Prelude.{◌&&◌, nat_le}
-use Rattle.std.proofs.Common.{None, Some, ◌≡◌, ℕ, suc, ◌<◌, ◌≤◌, ℤ, pos, negsuc, Bool, true, false, if◌then◌else◌, List, [], ◌∷◌, ◌++◌, length, take, drop, Option, Result, Ok, Err, refl, sym, ap, ◌∙◌, subst, arith, append-nil, append_assoc, take-append-drop}
+use Rattle.std.proofs.Common.{None, Some, ◌≡◌, ℕ, ◌<◌, ℤ, pos, Bool, true, false, if◌then◌else◌, List, [], ◌∷◌, ◌++◌, length, drop, Option, Result, Ok, Err, refl, sym, ap, ◌∙◌, subst, arith, append-nil, append_assoc, take-append-drop}
 use Rattle.std.specs.Ordering.{int_eq}
 use Rattle.std.proofs.lemmas.Bool.Decides.{Decides-int_eq}
 use Rattle.ig_base.specs.declared.Topology.{Topology}
@@ -14,8 +14,8 @@ use Rattle.ig_caches.specs.declared.request.Request.{Request}
 use Rattle.ig_caches.specs.declared.request.Request.TheVariants.{Run, Scan, NextPage, Close}
 use Rattle.ig_deals.specs.Faults.{fault_of}
 use Rattle.ig_deals.specs.Deals.{Got, Had, NoMemory, Deal}
-use Rattle.ig_deals.specs.Desk.{Cursor, Desk, page_of, has_more, after_page, cursor_at, without}
-use Rattle.ig_deals.specs.Replies.{Content, Fails, Reply, fits, too_long, shortened}
+use Rattle.ig_deals.specs.Desk.{Cursor, Desk, has_more, after_page, cursor_at, without}
+use Rattle.ig_deals.specs.Replies.{Fails, Reply, fits, too_long, shortened}
 use Rattle.ig_deals.specs.Turns.{Terms, Turn, untold, telling, answers, page_content, open_after, first_page, scanned, cursor_for, pairs_in, scan_answer, next_turn, close_turn, turn_for, turn}
 use Rattle.ig_deals.specs.OutFrames.{desk_after}
 use Rattle.ig_deals.specs.Laws.{rows_in, asks_page, pages_shown, HasLeft, ShowsOf, scan_deal}

@@ -1,6 +1,6 @@
 -- Replies to longer lists of deals, and the frames of a session.
 use Rattle.std.specs.Prelude.{◌&&◌, nat_le}
-use Rattle.std.proofs.Common.{None, Some, ◌≡◌, ◌≢◌, ℕ, suc, ℤ, pos, negsuc, Bool, true, false, if◌then◌else◌, List, [], ◌∷◌, ◌++◌, map, length, Option, Result, Ok, Err, refl, sym, ap, ◌∙◌, subst, arith, append-nil, append_assoc}
+use Rattle.std.proofs.Common.{None, Some, ◌≡◌, ℕ, ℤ, pos, Bool, true, false, if◌then◌else◌, List, [], ◌∷◌, ◌++◌, map, length, Option, Result, Ok, Err, refl, sym, ap, ◌∙◌}
 use Rattle.std.proofs.lemmas.List.{map-append}
 use Rattle.ig_wire.specs.declared.version.Version.{Version}
 use Rattle.ig_wire.specs.declared.hello.Hello.{Hello}
@@ -21,7 +21,7 @@ use Rattle.ig_deals.specs.Asks.{Asked, asks_after, asks}
 use Rattle.ig_deals.specs.Deals.{Got, Had, NoMemory, calls, Deal, dealt}
 use Rattle.ig_deals.specs.Desk.{Cursor, Desk, fresh_desk, has_more, cursor_at}
 use Rattle.ig_deals.specs.Faults.{fault_of}
-use Rattle.ig_deals.specs.Replies.{Content, Shows, Fails, Reply, reply_frame, fits, too_long, shortened}
+use Rattle.ig_deals.specs.Replies.{Shows, Fails, Reply, reply_frame, fits, too_long, shortened}
 use Rattle.ig_deals.specs.Turns.{Terms, Turn, untold, telling, answers, content_of, page_content, first_page, cursor_for, pairs_in, scan_answer, next_turn, close_turn, turn_for, turn}
 use Rattle.ig_deals.specs.OutFrames.{replies, desk_after, reply_frames, terms_at, frames_after, out_frames}
 use Rattle.ig_deals.specs.Laws.{IsPrefix}

@@ -1,13 +1,13 @@
 -- The place of an open cursor, and the cursors without it.
-use Rattle.std.proofs.Common.{None, Some, ◌≡◌, ℕ, suc, ◌+◌, ◌<◌, ◌≤◌, ℤ, pos, Bool, true, false, if◌then◌else◌, List, [], ◌∷◌, ◌++◌, length, take, drop, Option, refl, sym, ap, ◌∙◌, subst, arith, inl, inr}
+use Rattle.std.proofs.Common.{None, Some, ◌≡◌, ℕ, suc, ◌+◌, ◌<◌, ℤ, pos, Bool, true, false, if◌then◌else◌, List, [], ◌∷◌, ◌++◌, length, take, drop, refl, sym, ap, ◌∙◌, subst, arith, inl, inr}
 use Rattle.std.specs.Prelude.{slice_index_or}
 use Rattle.std.specs.List.{position_from}
 use Rattle.std.proofs.lemmas.Iterator.Adapters.{position_from-zero}
 use Rattle.std.specs.Ordering.{int_eq}
 use Rattle.std.proofs.lemmas.Bool.{cases_Bool, cond-true, cond-false}
 use Rattle.std.proofs.lemmas.Bool.Decides.{Decides-int_eq}
-use Rattle.ig_deals.specs.Desk.{Cursor, Desk, has_number, cursor_at, without, AreApart, place_of_number}
-use Rattle.ig_deals.proofs.CursorLemmas.{head-true, head-false, found-append, alone_none, other_number, without_none, without_other}
+use Rattle.ig_deals.specs.Desk.{Cursor, has_number, cursor_at, without, AreApart, place_of_number}
+use Rattle.ig_deals.proofs.CursorLemmas.{head-true, head-false, found-append, alone_none, without_none, without_other}
 
 -- ---- cursors of which none has the number
 

@@ -1,6 +1,6 @@
 -- Worked sessions: the frames that answer bodies, written by hand.
 use Rattle.std.specs.Prelude.{nat_le}
-use Rattle.std.proofs.Common.{◌≡◌, ℕ, ℤ, pos, Bool, true, false, if◌then◌else◌, List, [], ◌∷◌, ◌++◌, length, Option, None, Some, Ok, refl, ap, ◌∙◌}
+use Rattle.std.proofs.Common.{◌≡◌, ℕ, ℤ, pos, Bool, true, if◌then◌else◌, List, [], ◌∷◌, ◌++◌, length, None, Some, Ok, refl, ap, ◌∙◌}
 use Rattle.std.specs.Int.{w32}
 use Rattle.std.specs.Fmt.{digits}
 use Rattle.std.specs.Str.{is_utf8, chars}
@@ -18,7 +18,6 @@ use Rattle.ig_wire.specs.Versions.{version_1_0, version_1_4}
 use Rattle.ig_caches.specs.declared.call.Pair.{Pair}
 use Rattle.ig_caches.specs.declared.request.Request.TheVariants.{NextPage, Close}
 use Rattle.ig_caches.specs.declared.request.Shown.TheVariants.{Out}
-use Rattle.ig_caches.specs.declared.answer.Answer.{Answer}
 use Rattle.ig_caches.specs.declared.answer.Outcome.{Outcome}
 use Rattle.ig_caches.specs.declared.answer.Outcome.TheVariants.{Done, Found, Pairs, Keys, Refused}
 use Rattle.ig_caches.specs.declared.answer.Why.TheVariants.{NoCache, CacheExists}

@@ -1,5 +1,5 @@
 -- The frames that a session writes.
-use Rattle.std.specs.Prelude.{ℕ, List, [], ◌∷◌, map, Result, Ok, Err}
+use Rattle.std.specs.Prelude.{ℕ, List, [], ◌∷◌, map, Ok, Err}
 use Rattle.ig_wire.specs.declared.version.Version.{Version}
 use Rattle.ig_deals.specs.declared.cfg.SessionCfg.{SessionCfg}
 use Rattle.ig_deals.specs.declared.manner.Manner.{Manner}

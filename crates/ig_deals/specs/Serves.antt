@@ -1,5 +1,5 @@
 -- How a session's input, output, calls and end belong together.
-use Rattle.std.specs.Prelude.{◌≡◌, ◌≢◌, ℕ, ◌+◌, ◌<◌, ◌≤◌, List, [], ◌∷◌, ◌++◌, length, Result, Ok, Err}
+use Rattle.std.specs.Prelude.{◌≡◌, ◌≢◌, ℕ, ◌+◌, ◌<◌, ◌≤◌, List, [], ◌∷◌, ◌++◌, length, Ok, Err}
 use Rattle.std.specs.List.{flat_map}
 use Rattle.ig_base.specs.declared.entry.Entry.{Entry}
 use Rattle.ig_base.specs.Frames.{client, max_body, least_after, Begins, front, Incomplete, Bad}
@@ -44,7 +44,7 @@ pub record IsWaiting (bodies : List (List ℕ)) (after : List ℕ) (missing : �
   pub part : front (least_after client bodies) max_body after ≡ Incomplete missing
 
 -- Why a session ended, by its input, the bodies that it read, and the bytes of the input after them.
--- An end for a fault of a device or for want of memory may come after any of them.
+-- The ends for a write fault and for memory that ran out may come after any of them.
 abbrev pub EndsBy : SessionEnd → List ℕ → List (List ℕ) → List ℕ → Type 0
 EndsBy ends.Ended input bodies after = IsOpen bodies × (after ≡ []) × (length input < most_session_bytes)
 EndsBy (ends.Truncated missing) input bodies after =
@@ -77,7 +77,7 @@ pub record ShowsPart (frames : List (List ℕ)) (output : List ℕ) : Type 0 whe
   pub cut : joined last ≡ prefix ++ missing
   pub output_is : output ≡ joined whole ++ prefix
 
--- the output is these frames, of which a write fault or want of memory may have cut off the last
+-- the output is these frames, of which a write fault or a lack of memory may have cut off the last
 abbrev pub Shows : SessionEnd → List (List ℕ) → List ℕ → Type 0
 Shows ends.WriteFault frames output = ShowsPart frames output
 Shows ends.NoMemory frames output = ShowsPart frames output

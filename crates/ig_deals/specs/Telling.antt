@@ -1,5 +1,5 @@
 -- When a reply tells the topology.
-use Rattle.std.specs.Prelude.{ℤ, pos, Bool, false, true, Option, None, Some, if◌then◌else◌}
+use Rattle.std.specs.Prelude.{ℤ, pos, Bool, false, Option, None, Some, if◌then◌else◌}
 use Rattle.std.specs.Ordering.{int_eq}
 use Rattle.ig_base.specs.declared.Topology.{Topology}
 use Rattle.ig_wire.specs.declared.version.Version.{Version}

@@ -1,5 +1,5 @@
 -- What a request is replied, and the desk after it.
-use Rattle.std.specs.Prelude.{ℕ, suc, ℤ, pos, negsuc, Bool, true, false, ◌&&◌, List, [], ◌∷◌, ◌++◌, length, nat_le, Option, None, Some, Result, Ok, Err, if◌then◌else◌}
+use Rattle.std.specs.Prelude.{ℕ, suc, ℤ, pos, negsuc, ◌&&◌, List, [], ◌∷◌, ◌++◌, length, nat_le, Option, None, Some, Result, Ok, Err, if◌then◌else◌}
 use Rattle.ig_wire.specs.declared.version.Version.{Version}
 use Rattle.ig_wire.specs.declared.head.Fault.{Fault}
 use Rattle.ig_wire.specs.declared.reason.Reason.TheVariants as reason
@@ -19,7 +19,6 @@ use Rattle.ig_parts.specs.ServedMap.{served_map}
 use Rattle.ig_deals.specs.declared.cfg.SessionCfg.{SessionCfg}
 use Rattle.ig_deals.specs.declared.manner.Manner.{Manner}
 use Rattle.ig_deals.specs.Faults.{fault_of, reason_of}
-use Rattle.ig_deals.specs.Asks.{Asked}
 use Rattle.ig_deals.specs.Deals.{Got, Had, NoMemory, Deal}
 use Rattle.ig_deals.specs.Desk.{Cursor, Desk, page_of, has_more, after_page, cursor_at, without}
 use Rattle.ig_deals.specs.Telling.{topology, tells, told_after}
@@ -71,7 +70,7 @@ content_of cfg call minor (Refused why) = Fails (fault_of (reason_of why))
 content_of cfg call minor (Keys pairs) = Maps (served_map (topology minor) cfg.nodes cfg.parts (caches_in call) pairs)
 content_of cfg call minor o = Shows (Out o)
 
--- the reply to a call that was handed back for want of memory is `no memory`, and tells nothing
+-- a call for which memory ran out is replied `no memory`, and tells nothing
 abbrev pub no_memory : Terms → Desk → ℤ → Turn
 no_memory terms desk id = stays terms desk id (Fails (fault_of reason.NoMemory))
 
