@@ -6,4 +6,5 @@ pub mod PageLemmas
 pub mod DeskLemmas
 pub mod CutLemmas
 pub mod TakeLemmas
+pub mod PieceLemmas
 mod WorkedSessions

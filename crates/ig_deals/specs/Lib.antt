@@ -9,4 +9,5 @@ pub mod Replies
 pub mod Turns
 pub mod OutFrames
 pub mod Serves
+pub mod Pieces
 pub mod Laws

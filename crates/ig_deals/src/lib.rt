@@ -23,6 +23,7 @@ mod end;
 mod laws;
 mod manner;
 mod open_cursor;
+mod pieces;
 
 pub use cfg::SessionCfg;
 pub use desk::Desk;
@@ -33,6 +34,7 @@ pub use laws::{
 };
 pub use manner::Manner;
 pub use open_cursor::OpenCursor;
+pub use pieces::{piece_len, pieces_follow};
 
 #[cfg(test)]
 mod tests;
