@@ -1,0 +1,7 @@
+use Rattle.std.proofs.Common.{rules}
+use Rattle.ig_caches.specs.declared.answer.Outcome.TheVariants as outcome
+use Rattle.ig_caches.specs.declared.request.Shown.TheVariants as shown
+use Rattle.ig_ops.proofs.result_shapes.read_value.Goals as goal
+
+pub returns : goal.returns
+returns c = c.read_shown.ensures (λ v. shown.Out (outcome.Found v)) (λ x y p. search rules)
