@@ -1,0 +1,5 @@
+pub mod OrderLemmas
+pub mod LoopLemmas
+pub mod TypeLemmas
+pub mod RequestLemmas
+pub mod ResultLemmas
