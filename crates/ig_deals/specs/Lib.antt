@@ -1,0 +1,13 @@
+pub mod Tables
+pub mod Faults
+pub mod Asks
+pub mod Hellos
+pub mod Deals
+pub mod Desk
+pub mod Telling
+pub mod Replies
+pub mod Turns
+pub mod OutFrames
+pub mod Serves
+pub mod Pieces
+pub mod Laws
