@@ -512,7 +512,7 @@ fn longs(alloc: Global, count: usize) -> Result<Value, Fail> {
     Ok(Value::Longs(Items::new(items)))
 }
 
-/// A request that sets an array of so many Bytes to one of 1,048,572 Longs: whether it was appended, and
+/// A request that sets an array of this many Bytes to one of 1,048,572 Longs: whether it was appended, and
 /// how many bytes there are.
 fn large_ask(alloc: Global, bytes: usize) -> Result<(bool, usize), Fail> {
     let request = Request::Run(Call::Put {
