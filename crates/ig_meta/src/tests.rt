@@ -1,5 +1,6 @@
 ghost use Rattle.std.specs.Prelude.{◌≡◌, ◌≤◌, length, IsTrue, IsSome};
 ghost use Rattle.ig_fields.specs.Ask.{row_at};
+ghost use Rattle.ig_meta.specs.Requests.{IsMetaRequest};
 ghost use Rattle.ig_meta.specs.Results.{result_of, IsMetaShown};
 
 use super::*;
@@ -193,8 +194,9 @@ fn same(bytes: &[u8], wanted: &[u8]) -> Seen {
 
 /// The frame of a request of the operation with these fields.
 fn frame_of(alloc: Global, op: i16, fields: &[u8]) -> Result<Vec<u8>, NoMemory> {
+    let len = u32::try_from(fields.len().saturating_add(HEAD)).unwrap_or(u32::MAX);
     let mut frame = Vec::new(alloc);
-    frame.extend_from_slice(&((HEAD + fields.len()) as u32).to_le_bytes())?;
+    frame.extend_from_slice(&len.to_le_bytes())?;
     frame.extend_from_slice(&op.to_le_bytes())?;
     frame.extend_from_slice(&ID.to_le_bytes())?;
     frame.extend_from_slice(fields)?;
@@ -214,7 +216,13 @@ fn ask_seen_as(alloc: Global, op: i16, fields: &[u8], written: &[u8]) -> Seen {
     let Ok(wanted) = frame_of(alloc, op, written) else {
         return Seen::Otherwise;
     };
-    match read_fields(alloc, op, &frame.as_slice()[4..]) {
+    let Some(body) = frame.as_slice().get(4..) else {
+        return Seen::Otherwise;
+    };
+    if body.len() < HEAD {
+        return Seen::Otherwise;
+    }
+    match read_fields(alloc, op, body) {
         Ok(request) => ask_written(alloc, &request, wanted.as_slice()),
         Err(AskFault::Unread { place }) => Seen::Stops(place.saturating_sub(4 + HEAD)),
         Err(AskFault::Profile(profile)) => Seen::Refused(profile),
@@ -224,7 +232,9 @@ fn ask_seen_as(alloc: Global, op: i16, fields: &[u8], written: &[u8]) -> Seen {
 }
 
 /// Whether the request is written as this frame.
-fn ask_written(alloc: Global, request: &Request, frame: &[u8]) -> Seen {
+fn ask_written(alloc: Global, request: &Request, frame: &[u8]) -> Seen
+    requires { IsMetaRequest request.now }
+{
     let mut out = Octets::empty(alloc);
     match write_ask(alloc, ID, request, &mut out) {
         Ok(true) => same(out.as_slice(), frame),
