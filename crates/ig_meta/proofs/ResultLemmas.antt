@@ -9,7 +9,10 @@ use Rattle.ig_wire.specs.declared.Operation.{Operation}
 use Rattle.ig_wire.specs.declared.Operation.TheVariants as operation
 use Rattle.ig_wire.specs.declared.ReadFault.{ReadFault}
 use Rattle.ig_types.specs.declared.TypeMeta.{TypeMeta}
+use Rattle.ig_caches.specs.declared.Call.TheVariants as call
+use Rattle.ig_caches.specs.declared.Outcome.{Outcome}
 use Rattle.ig_caches.specs.declared.Outcome.TheVariants as outcome
+use Rattle.ig_caches.specs.AnswersKind.{OutcomeKind, done, yes_or_no, names, name, meta, IsOfKind}
 use Rattle.ig_caches.specs.declared.Shown.{Shown}
 use Rattle.ig_caches.specs.declared.Shown.TheVariants.{Out}
 use Rattle.ig_fields.specs.declared.Either.{Either}
@@ -29,8 +32,8 @@ use Rattle.ig_fields.proofs.RowLemmas.{present, present_is}
 use Rattle.ig_fields.proofs.WrittenTableLemmas.{written_result_read}
 use Rattle.ig_meta.specs.TypeFields.{type_format, type_of_fields, fields_of_type}
 use Rattle.ig_meta.specs.TypeViews.{type_in}
-use Rattle.ig_meta.specs.Results.{found_format, found_type, result_of, IsMetaShown, found_fields, filled_of, shown_bytes}
-use Rattle.ig_meta.specs.Laws.{ShowsInOrder, IsShownIn, FitsShown, WrittenResultIsRead, ResultsTellApart, SpelledResultFits}
+use Rattle.ig_meta.specs.Results.{found_format, found_type, done_form, result_of, IsMetaShown, found_fields, filled_of, shown_bytes}
+use Rattle.ig_meta.specs.Laws.{ShowsInOrder, IsShownIn, FitsShown, WrittenResultIsRead, ResultsTellApart, SpelledResultFits, IsShownInRow, IsAnswered, AnswersAreShown}
 use Rattle.ig_meta.proofs.TypeLemmas.{ordered_back, read_in_order, type_fits}
 
 by_form : (P : ResultForm Shown → Type 0) (row form : ResultForm Shown) → P row → present row ≡ present form → P form
@@ -91,6 +94,83 @@ read_is p q e = cc
 pub results_tell_apart : ResultsTellApart
 results_tell_apart o form p q known first second fp fq e =
     read_is p q (sym (written_result_is_read o form p [] known first fp) ∙ ap (λ (s : List ℕ). shown_by form s 0) e ∙ written_result_is_read o form q [] known second fq)
+
+-- ---- what answers is shown
+
+done_shown : (o : Outcome) → IsOfKind done o → IsAnswered o → IsShownIn done_form (Out o)
+done_shown outcome.Done h a = (tt, refl)
+done_shown (outcome.Found v) h a = absurd cc
+done_shown (outcome.Yes b) h a = absurd cc
+done_shown (outcome.Pairs rows) h a = absurd cc
+done_shown (outcome.Count n) h a = absurd cc
+done_shown (outcome.Names list) h a = absurd cc
+done_shown (outcome.Name text) h a = absurd cc
+done_shown (outcome.Meta t) h a = absurd cc
+done_shown (outcome.Keys keys) h a = absurd cc
+done_shown (outcome.Refused why) h a = absurd a
+
+truth_shown : (o : Outcome) → IsOfKind yes_or_no o → IsAnswered o → IsShownInRow (result_of operation.RegisterTypeName) (Out o)
+truth_shown outcome.Done h a = absurd cc
+truth_shown (outcome.Found v) h a = absurd cc
+truth_shown (outcome.Yes b) h a = (b, refl)
+truth_shown (outcome.Pairs rows) h a = absurd cc
+truth_shown (outcome.Count n) h a = absurd cc
+truth_shown (outcome.Names list) h a = absurd cc
+truth_shown (outcome.Name text) h a = absurd cc
+truth_shown (outcome.Meta t) h a = absurd cc
+truth_shown (outcome.Keys keys) h a = absurd cc
+truth_shown (outcome.Refused why) h a = absurd a
+
+all_names_shown : (o : Outcome) → IsOfKind names o → IsAnswered o → IsShownInRow (result_of operation.CacheNames) (Out o)
+all_names_shown outcome.Done h a = absurd cc
+all_names_shown (outcome.Found v) h a = absurd cc
+all_names_shown (outcome.Yes b) h a = absurd cc
+all_names_shown (outcome.Pairs rows) h a = absurd cc
+all_names_shown (outcome.Count n) h a = absurd cc
+all_names_shown (outcome.Names list) h a = (list, refl)
+all_names_shown (outcome.Name text) h a = absurd cc
+all_names_shown (outcome.Meta t) h a = absurd cc
+all_names_shown (outcome.Keys keys) h a = absurd cc
+all_names_shown (outcome.Refused why) h a = absurd a
+
+name_shown : (o : Outcome) → IsOfKind name o → IsAnswered o → IsShownInRow (result_of operation.GetTypeName) (Out o)
+name_shown outcome.Done h a = absurd cc
+name_shown (outcome.Found v) h a = absurd cc
+name_shown (outcome.Yes b) h a = absurd cc
+name_shown (outcome.Pairs rows) h a = absurd cc
+name_shown (outcome.Count n) h a = absurd cc
+name_shown (outcome.Names list) h a = absurd cc
+name_shown (outcome.Name text) h a = (text, refl)
+name_shown (outcome.Meta t) h a = absurd cc
+name_shown (outcome.Keys keys) h a = absurd cc
+name_shown (outcome.Refused why) h a = absurd a
+
+found_again : (found : Option TypeMeta) → ShowsInOrder (Out (outcome.Meta found)) → found_type (found_fields found) ≡ found
+found_again None h = refl
+found_again (Some t) h = ap (λ (u : TypeMeta). Some u) (ordered_back t h)
+
+meta_shown : (o : Outcome) → IsOfKind meta o → IsAnswered o → ShowsInOrder (Out o) → IsShownInRow (result_of operation.GetType) (Out o)
+meta_shown outcome.Done h a s = absurd cc
+meta_shown (outcome.Found v) h a s = absurd cc
+meta_shown (outcome.Yes b) h a s = absurd cc
+meta_shown (outcome.Pairs rows) h a s = absurd cc
+meta_shown (outcome.Count n) h a s = absurd cc
+meta_shown (outcome.Names list) h a s = absurd cc
+meta_shown (outcome.Name text) h a s = absurd cc
+meta_shown (outcome.Meta t) h a s = (found_fields t, ap (λ (u : Option TypeMeta). Out (outcome.Meta u)) (found_again t s))
+meta_shown (outcome.Keys keys) h a s = absurd cc
+meta_shown (outcome.Refused why) h a s = absurd a
+
+pub answers_are_shown : AnswersAreShown
+answers_are_shown call.Names o m h a s = all_names_shown o h a
+answers_are_shown (call.Create n) o m h a s = done_shown o h a
+answers_are_shown (call.GetOrCreate n) o m h a s = done_shown o h a
+answers_are_shown (call.Destroy c) o m h a s = done_shown o h a
+answers_are_shown (call.TypeName p t) o m h a s = name_shown o h a
+answers_are_shown (call.SetTypeName p t n) o m h a s = truth_shown o h a
+answers_are_shown (call.TypeOf t) o m h a s = meta_shown o h a s
+answers_are_shown (call.PutType t) o m h a s = done_shown o h a
+answers_are_shown _ o m h a s = absurd m
 
 -- ---- what is read fits
 

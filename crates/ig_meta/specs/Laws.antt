@@ -1,26 +1,27 @@
 -- Laws of these requests and results, over lists alone.
-use Rattle.std.specs.Prelude.{◌≡◌, ℕ, ℤ, ◌<◌, ◌^◌, ◌↔◌, List, ◌++◌, length, map, Contains, Some, Ok, FitsSigned}
+use Rattle.std.specs.Prelude.{◌≡◌, ℕ, ℤ, ◌<◌, ◌^◌, List, ◌++◌, length, Option, None, Some, Ok, FitsSigned}
 use Rattle.std.specs.Int.{w64}
 use Rattle.ig_wire.specs.Operations.{operation_code}
 use Rattle.ig_wire.specs.declared.Operation.{Operation}
-use Rattle.ig_types.specs.declared.FieldMeta.{FieldMeta}
-use Rattle.ig_types.specs.declared.SchemaMeta.{SchemaMeta}
 use Rattle.ig_types.specs.declared.TypeMeta.{TypeMeta}
 use Rattle.ig_types.specs.IsInOrder.{IsInOrder}
+use Rattle.ig_caches.specs.declared.Call.{Call}
 use Rattle.ig_caches.specs.declared.Call.TheVariants as call
 use Rattle.ig_caches.specs.declared.Request.{Request}
 use Rattle.ig_caches.specs.declared.Request.TheVariants.{Run}
+use Rattle.ig_caches.specs.declared.Outcome.{Outcome}
 use Rattle.ig_caches.specs.declared.Outcome.TheVariants as outcome
 use Rattle.ig_caches.specs.declared.Shown.{Shown}
 use Rattle.ig_caches.specs.declared.Shown.TheVariants.{Out}
 use Rattle.ig_caches.specs.IsRunnable.{IsRunnable}
+use Rattle.ig_caches.specs.AnswersKind.{AnswersKind}
 use Rattle.ig_fields.specs.Format.{Fields}
 use Rattle.ig_fields.specs.SpellsFields.{SpellsFields}
 use Rattle.ig_fields.specs.Ask.{row_at, Ask, ResultForm}
 use Rattle.ig_fields.specs.AsksRightly.{served, asked}
 use Rattle.ig_fields.specs.ShowsRightly.{shown_by}
 use Rattle.ig_fields.specs.TableLaws.{FitsFilled}
-use Rattle.ig_meta.specs.TypeFields.{type_format, field_of, schema_of, type_of_fields, fields_of_type}
+use Rattle.ig_meta.specs.TypeFields.{type_format, type_of_fields, fields_of_type}
 use Rattle.ig_meta.specs.Requests.{ask_of, IsMetaRequest, profile_of, form_of, ask_body}
 use Rattle.ig_meta.specs.Results.{result_of, IsMetaShown, filled_of, shown_bytes}
 
@@ -106,3 +107,19 @@ abbrev pub SpelledResultFits : Type 0
 SpelledResultFits =
     (o : Operation) (form : ResultForm Shown) (s : List ℕ) (x : Fields form.format) → result_of o ≡ Some form
     → length s < 2 ^ 31 → SpellsFields form.format s x → FitsShown (form.shown x)
+
+-- fields of the row's form show it
+abbrev pub IsShownInRow : Option (ResultForm Shown) → Shown → Type 0
+IsShownInRow None shown = ⊥
+IsShownInRow (Some form) shown = IsShownIn form shown
+
+-- what isn't a refusal
+abbrev pub IsAnswered : Outcome → Type 0
+IsAnswered (outcome.Refused why) = ⊥
+IsAnswered _ = Unit {0}
+
+-- an outcome that answers a call is a result of the call's operation; a description is so if it is in order
+abbrev pub AnswersAreShown : Type 0
+AnswersAreShown =
+    (c : Call) (o : Outcome) → IsMetaRequest (Run c) → AnswersKind c o → IsAnswered o → ShowsInOrder (Out o)
+    → IsShownInRow (result_of (form_of (Run c)).operation) (Out o)

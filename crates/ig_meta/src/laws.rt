@@ -4,7 +4,7 @@
 ghost use Rattle.ig_fields.specs.TableLaws.{AskedIsRight, OneRightAsk, ShownIsRight, OneRightResult};
 ghost use Rattle.ig_meta.specs.Requests.{ask_of};
 ghost use Rattle.ig_meta.specs.Results.{result_of};
-ghost use Rattle.ig_meta.specs.Laws.{WrittenAskIsRead, AsksTellApart, SpelledRequestFits, WrittenResultIsRead, ResultsTellApart, SpelledResultFits, OrderedTypeComesBack, ReadTypeIsInOrder};
+ghost use Rattle.ig_meta.specs.Laws.{WrittenAskIsRead, AsksTellApart, SpelledRequestFits, WrittenResultIsRead, ResultsTellApart, SpelledResultFits, AnswersAreShown, OrderedTypeComesBack, ReadTypeIsInOrder};
 
 /// What reading a request gives is the one right answer. A request that is written is read as it is, or
 /// refused for its empty name, and no two requests have the same bytes. What is read can be written.
@@ -17,13 +17,15 @@ pub fn meta_asks_agree()
 {}
 
 /// What reading a result gives is the one right answer. A result that is written is read as it is, and
-/// no two results of an operation have the same bytes. What is read can be written.
+/// no two results of an operation have the same bytes. What is read can be written. The outcome that
+/// answers a call is a result of the call's operation.
 pub fn meta_results_agree()
     ensures right { ShownIsRight result_of }
     ensures only { OneRightResult result_of }
     ensures written { WrittenResultIsRead }
     ensures apart { ResultsTellApart }
     ensures fit { SpelledResultFits }
+    ensures answers { AnswersAreShown }
 {}
 
 /// A description in order is what its fields hold, and what fields hold is in order.

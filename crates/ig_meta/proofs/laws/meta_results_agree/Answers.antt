@@ -1,5 +1,5 @@
 use Rattle.ig_fields.proofs.AskLemmas.{shown_is_right, one_right_result}
-use Rattle.ig_meta.proofs.ResultLemmas.{written_result_is_read, results_tell_apart, spelled_result_fits}
+use Rattle.ig_meta.proofs.ResultLemmas.{written_result_is_read, results_tell_apart, spelled_result_fits, answers_are_shown}
 use Rattle.ig_meta.proofs.laws.meta_results_agree.Goals as goal
 
 pub returns-clause-right : goal.returns-clause-right
@@ -16,3 +16,6 @@ returns-clause-apart c = results_tell_apart
 
 pub returns-clause-fit : goal.returns-clause-fit
 returns-clause-fit c = spelled_result_fits
+
+pub returns-clause-answers : goal.returns-clause-answers
+returns-clause-answers c = answers_are_shown
