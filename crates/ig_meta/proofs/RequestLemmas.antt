@@ -1,14 +1,12 @@
 -- Requests: what is read may be run, what is written is read, and what is read fits.
-use Rattle.std.proofs.Common.{◌≡◌, ◌≢◌, ℕ, ℤ, ◌<◌, ◌≤◌, ◌^◌, List, [], ◌∷◌, length, Option, None, Some, Result, Ok, Err, refl, sym, ap, subst, ◌∙◌}
+use Rattle.std.proofs.Common.{◌≡◌, ◌≢◌, ℕ, ℤ, ◌<◌, ◌≤◌, ◌^◌, List, [], ◌∷◌, length, Option, None, Some, Result, Ok, Err, refl, ap, subst}
 use Rattle.std.specs.Prelude.{IfOk}
 use Rattle.std.specs.Option.{option_and_then}
 use Rattle.ig_wire.specs.Operations.{operation_at}
 use Rattle.ig_wire.specs.declared.Operation.{Operation}
 use Rattle.ig_wire.specs.declared.Operation.TheVariants as operation
 use Rattle.ig_wire.specs.declared.AskFault.{AskFault}
-use Rattle.ig_wire.specs.declared.Profile.{Profile}
 use Rattle.ig_types.specs.declared.TypeMeta.{TypeMeta}
-use Rattle.ig_caches.specs.declared.Call.{Call}
 use Rattle.ig_caches.specs.declared.Call.TheVariants as call
 use Rattle.ig_caches.specs.declared.Request.{Request}
 use Rattle.ig_caches.specs.declared.Request.TheVariants.{Run}
@@ -24,7 +22,7 @@ use Rattle.ig_fields.specs.TableLaws.{IsRowOf}
 use Rattle.ig_fields.proofs.FitsLemmas.{fields_fit}
 use Rattle.ig_fields.proofs.RowLemmas.{present, present_is}
 use Rattle.ig_fields.proofs.WrittenTableLemmas.{written_ask_read, written_asks_apart}
-use Rattle.ig_meta.specs.TypeFields.{type_format, type_of_fields, fields_of_type}
+use Rattle.ig_meta.specs.TypeFields.{type_format, fields_of_type}
 use Rattle.ig_meta.specs.Requests.{type_name, name_profile, ask_of, IsMetaRequest, profile_of, form_of}
 use Rattle.ig_meta.specs.Laws.{IsRunnableRequest, PutsInOrder, FitsRequest, WrittenAskIsRead, AsksTellApart, SpelledRequestFits}
 use Rattle.ig_meta.proofs.TypeLemmas.{ordered_back, read_in_order, type_fits}

@@ -1,5 +1,5 @@
 -- Results: what is read is in order, what is written is read, and what is read fits.
-use Rattle.std.proofs.Common.{◌≡◌, ◌≢◌, ℕ, ℤ, ◌<◌, ◌≤◌, ◌^◌, List, [], ◌∷◌, ◌++◌, length, map, drop, Option, None, Some, Result, Ok, Err, refl, sym, ap, subst, ◌∙◌, inl, inr}
+use Rattle.std.proofs.Common.{◌≡◌, ℕ, ℤ, ◌<◌, ◌≤◌, ◌^◌, List, [], ◌∷◌, length, map, drop, Option, None, Some, Result, Ok, Err, refl, sym, ap, subst, ◌∙◌, inl, inr}
 use Rattle.std.specs.Prelude.{IfOk, IfSome, IsSome}
 use Rattle.std.proofs.lemmas.Bool.{false≢true}
 use Rattle.std.specs.Option.{option_and_then}
@@ -12,16 +12,15 @@ use Rattle.ig_types.specs.declared.TypeMeta.{TypeMeta}
 use Rattle.ig_caches.specs.declared.Call.TheVariants as call
 use Rattle.ig_caches.specs.declared.Outcome.{Outcome}
 use Rattle.ig_caches.specs.declared.Outcome.TheVariants as outcome
-use Rattle.ig_caches.specs.AnswersKind.{OutcomeKind, done, yes_or_no, names, name, meta, IsOfKind}
+use Rattle.ig_caches.specs.AnswersKind.{done, yes_or_no, names, name, meta, IsOfKind}
 use Rattle.ig_caches.specs.declared.Shown.{Shown}
 use Rattle.ig_caches.specs.declared.Shown.TheVariants.{Out}
-use Rattle.ig_fields.specs.declared.Either.{Either}
 use Rattle.ig_value.specs.Part.{truth}
 use Rattle.ig_fields.specs.Format.{string, scalar, listed, Fields}
 use Rattle.ig_fields.specs.SpellsFields.{SpellsFields}
 use Rattle.ig_fields.specs.FieldBytes.{FitsFields}
 use Rattle.ig_fields.specs.ReadingFields.{message_of}
-use Rattle.ig_fields.specs.Ask.{row_at, ResultForm, Filled, item_form}
+use Rattle.ig_fields.specs.Ask.{row_at, ResultForm, item_form}
 use Rattle.ig_fields.specs.ShowsRightly.{ShowsRightly, shown_fields, shown_by}
 use Rattle.ig_fields.specs.ShownAnswers.{ShowsAs}
 use Rattle.ig_fields.specs.TableLaws.{IsShownBy}
@@ -30,9 +29,9 @@ use Rattle.ig_fields.proofs.AskLemmas.{shown_answer_is_right}
 use Rattle.ig_fields.proofs.FitsLemmas.{fields_fit}
 use Rattle.ig_fields.proofs.RowLemmas.{present, present_is}
 use Rattle.ig_fields.proofs.WrittenTableLemmas.{written_result_read}
-use Rattle.ig_meta.specs.TypeFields.{type_format, type_of_fields, fields_of_type}
+use Rattle.ig_meta.specs.TypeFields.{type_of_fields}
 use Rattle.ig_meta.specs.TypeViews.{type_in}
-use Rattle.ig_meta.specs.Results.{found_format, found_type, done_form, result_of, IsMetaShown, found_fields, filled_of, shown_bytes}
+use Rattle.ig_meta.specs.Results.{found_format, found_type, done_form, result_of, IsMetaShown, found_fields, filled_of}
 use Rattle.ig_meta.specs.Laws.{ShowsInOrder, IsShownIn, FitsShown, WrittenResultIsRead, ResultsTellApart, SpelledResultFits, IsShownInRow, IsAnswered, AnswersAreShown}
 use Rattle.ig_meta.proofs.TypeLemmas.{ordered_back, read_in_order, type_fits}
 

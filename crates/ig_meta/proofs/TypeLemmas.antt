@@ -1,10 +1,10 @@
 -- Descriptions as fields: what is read is in order, a description in order comes back, and what is read
 -- fits.
-use Rattle.std.proofs.Common.{◌≡◌, ℕ, ℤ, ◌<◌, ◌^◌, Bool, true, false, List, [], ◌∷◌, length, map, Option, refl, sym, ap, subst, ◌∙◌, arith, inl, inr}
-use Rattle.std.specs.List.{AllByRecursion, IsDistinct}
+use Rattle.std.proofs.Common.{◌≡◌, ◌<◌, ◌^◌, Bool, true, false, List, [], ◌∷◌, length, map, refl, sym, ap, subst, ◌∙◌, arith, inl, inr}
+use Rattle.std.specs.List.{AllByRecursion}
 use Rattle.std.specs.List.Sorted.{IsStrictlySortedBy}
 use Rattle.std.specs.Map.{keys_of}
-use Rattle.std.specs.Ordering.{nat_cmp, int_cmp, int_eq, eq_by_cmp}
+use Rattle.std.specs.Ordering.{int_cmp, eq_by_cmp}
 use Rattle.std.specs.Cmp.{IsTotalOrder, int_cmp_total}
 use Rattle.std.specs.Cmp.Lexicographic.{texts_ties}
 use Rattle.std.specs.declared.cmp.Ordering.{Ordering}
@@ -16,11 +16,11 @@ use Rattle.ig_types.specs.declared.FieldMeta.{FieldMeta}
 use Rattle.ig_types.specs.declared.Literal.{Literal}
 use Rattle.ig_types.specs.declared.SchemaMeta.{SchemaMeta}
 use Rattle.ig_types.specs.declared.TypeMeta.{TypeMeta}
-use Rattle.ig_types.specs.IsInOrder.{by_field, by_literal, by_schema, IsInOrder}
+use Rattle.ig_types.specs.IsInOrder.{by_field, by_literal, by_schema}
 use Rattle.ig_fields.specs.Format.{Format, Key, name, identifier, KeyValue, is_same_key, scalar, both, listed, distinct, Fields}
 use Rattle.ig_fields.specs.FieldBytes.{FitsKey, FitsFields}
 use Rattle.ig_meta.specs.KeyOrder.{in_key_order}
-use Rattle.ig_meta.specs.TypeFields.{fields_format, literals_format, schemas_format, enum_format, type_format, name_order, field_of, literal_of, schema_of, field_parts, literal_parts, schema_parts, is_enum_of, literals_of, enum_fields, type_of_fields, fields_of_type}
+use Rattle.ig_meta.specs.TypeFields.{enum_format, type_format, name_order, field_of, literal_of, schema_of, field_parts, literal_parts, schema_parts, is_enum_of, literals_of, enum_fields, type_of_fields, fields_of_type}
 use Rattle.ig_meta.specs.Laws.{OrderedTypeComesBack, ReadTypeIsInOrder}
 use Rattle.ig_meta.proofs.OrderLemmas.{ordered_ascend, ascending_stay, ordered_hold, ordered_longer, distinct_same}
 

@@ -1,5 +1,4 @@
 -- The requests on the names of caches and on descriptions of types.
-use Rattle.std.proofs.Common.{inl, inr}
 use Rattle.std.specs.Prelude.{ℕ, ℤ, List, [], ◌∷◌, Option, None, Some}
 use Rattle.ig_value.specs.Part.{i32}
 use Rattle.ig_wire.specs.declared.Operation.{Operation}

@@ -1,6 +1,6 @@
 -- The results of the requests on the names of caches and on descriptions of types.
 use Rattle.std.proofs.Common.{inl, inr}
-use Rattle.std.specs.Prelude.{ℕ, List, Option, None, Some, ◌⊎◌}
+use Rattle.std.specs.Prelude.{ℕ, List, Option, None, Some}
 use Rattle.ig_value.specs.Part.{truth}
 use Rattle.ig_wire.specs.declared.Operation.{Operation}
 use Rattle.ig_wire.specs.declared.Operation.TheVariants as operation
