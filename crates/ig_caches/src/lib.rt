@@ -26,6 +26,3 @@ pub use fault::StartFault;
 pub use laws::{answers_fit, keys_are_apart, scans_are_whole};
 pub use request::{Page, Request, Shown};
 pub use row_map::RowMap;
-
-#[cfg(test)]
-mod tests;

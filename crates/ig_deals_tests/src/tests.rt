@@ -1,0 +1,43 @@
+use ig_deals::*;
+use ig_base::Items;
+use ig_caches::Pair;
+use ig_value::Value;
+use std::alloc::{AllocError, Global};
+use std::test::Fail;
+
+/// Rows of which each has its number as key and value, from 1 on.
+fn numbered_rows(alloc: Global, count: i32) -> Result<Items<Pair>, AllocError> {
+    let mut rows = Vec::new(alloc);
+    for number in 1..=count {
+        rows.push(Pair {
+            key: Value::Int(number),
+            value: Value::Int(number),
+        })?;
+    }
+    Ok(Items::new(rows))
+}
+
+#[test]
+fn cursors_are_taken_by_number(rt: HostRuntime) -> Result<(), Fail> {
+    let alloc = rt.alloc();
+    let mut desk = Desk::new(alloc)?;
+    let number = desk.next_number();
+    desk.draw();
+    let rows = numbered_rows(alloc, 5)?;
+    desk.open(OpenCursor::new(number, 2, rows));
+    assert!(rt; !desk.is_full());
+    assert!(rt; desk.take(2).is_none());
+    let Some(mut cursor) = desk.take(1) else {
+        assert!(rt; false);
+        return Ok(());
+    };
+    assert!(rt; desk.take(1).is_none());
+    let first = cursor.next_page().len();
+    let more = cursor.has_more();
+    cursor.pass_page();
+    cursor.pass_page();
+    let last = cursor.next_page().len();
+    let ended = !cursor.has_more();
+    assert_eq!(rt; (number, first, more, last, ended), (1, 2, true, 1, true));
+    Ok(())
+}
