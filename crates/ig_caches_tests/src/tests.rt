@@ -1,8 +1,8 @@
 ghost use Rattle.std.specs.Prelude.{◌≡◌, ◌≢◌, [], All, IfSome, IfOk};
 ghost use Rattle.ig_caches.specs.IsRunnable.{IsItem, IsRow, IsRunnable};
 
-use ig_caches::*;
 use ig_base::{Items, NoMemory, Octets, Text, text_hash};
+use ig_caches::*;
 use ig_types::{FieldMeta, TypeMeta};
 use ig_value::Value;
 use std::alloc::{AllocError, Global};

@@ -1,6 +1,6 @@
-use ig_deals::*;
 use ig_base::Items;
 use ig_caches::Pair;
+use ig_deals::*;
 use ig_value::Value;
 use std::alloc::{AllocError, Global};
 use std::test::Fail;

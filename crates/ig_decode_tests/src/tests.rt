@@ -1,5 +1,5 @@
-use ig_decode::*;
 use ig_base::bytes_hash;
+use ig_decode::*;
 use ig_value::{Shape, Value};
 use std::alloc::{AllocError, Global};
 use std::test::Fail;

@@ -1,7 +1,7 @@
 ghost use Rattle.std.specs.Prelude.{◌<◌, ◌≤◌, length};
 
-use ig_encode::*;
 use ig_base::{Boxed, Items, NodeId, Octets, Text};
+use ig_encode::*;
 use ig_value::{Dec, Object, Record, Shape, Stamp, Value};
 use std::alloc::Global;
 use std::test::Fail;

@@ -1,5 +1,5 @@
-use ig_encode::*;
 use ig_base::{Items, NodeId, Octets, Text};
+use ig_encode::*;
 use ig_value::{Dec, Stamp, Value};
 use std::alloc::Global;
 use std::test::Fail;

@@ -1,8 +1,8 @@
 ghost use Rattle.ig_value.specs.Canon.{Canon};
 
-use ig_fields::*;
 use ig_base::{Items, NoMemory, NodeId, Octets, Text};
 use ig_encode::{ValueOutput, Window};
+use ig_fields::*;
 use ig_value::Value;
 use ig_wire::{AskFault, Profile, ReadError, ReadFault, Unread};
 use std::alloc::Global;

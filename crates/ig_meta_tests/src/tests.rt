@@ -3,9 +3,9 @@ ghost use Rattle.ig_fields.specs.Ask.{row_at};
 ghost use Rattle.ig_meta.specs.Requests.{IsMetaRequest};
 ghost use Rattle.ig_meta.specs.Results.{result_of, IsMetaShown};
 
-use ig_meta::*;
 use ig_base::{NoMemory, Octets, Text};
 use ig_caches::{Call, Request, Shown};
+use ig_meta::*;
 use ig_wire::{AskFault, Operation, Profile, ReadFault};
 use std::alloc::Global;
 use std::test::Fail;

@@ -4,9 +4,9 @@ ghost use Rattle.ig_ops.specs.Requests.{IsOpsRequest};
 ghost use Rattle.ig_ops.specs.Results.{result_of, IsOpsShown};
 ghost use Rattle.ig_ops.specs.ReadAnswers.{IsKnown};
 
-use ig_ops::*;
 use ig_base::{Items, Octets};
 use ig_caches::{Call, Outcome, Page, Pair, Request, Shown};
+use ig_ops::*;
 use ig_value::Value;
 use ig_wire::{AskFault, Operation, Profile, ReadFault};
 use std::alloc::Global;

@@ -1,8 +1,8 @@
 ghost use Rattle.std.specs.Prelude.{◌≤◌, length};
 
-use ig_parts::*;
 use ig_base::{Items, Octets, Topology};
 use ig_fields::{message_len, message_part};
+use ig_parts::*;
 use ig_wire::{AskFault, ReadFault};
 use std::alloc::Global;
 use std::test::Fail;

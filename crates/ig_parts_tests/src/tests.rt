@@ -1,5 +1,5 @@
-use ig_parts::*;
 use ig_base::{Boxed, Items, NodeId, Text, Topology};
+use ig_parts::*;
 use ig_value::{Record, Shape, Value};
 use std::alloc::Global;
 use std::test::Fail;

@@ -1,5 +1,5 @@
-use ig_types::*;
 use ig_base::{Items, NoMemory, Text};
+use ig_types::*;
 use std::alloc::{AllocError, Global};
 use std::fmt::Debug;
 use std::test::Fail;

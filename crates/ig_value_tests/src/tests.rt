@@ -1,7 +1,7 @@
 ghost use Rattle.ig_value.specs.Limits.{Fits};
 
-use ig_value::*;
 use ig_base::{Boxed, Items, Text};
+use ig_value::*;
 use std::alloc::Global;
 use std::test::Fail;
 

@@ -1,6 +1,6 @@
-use ig_wire::*;
 use ig_base::{NoMemory, NodeId, Octets, Text, Topology};
 use ig_encode::{Measure, Window};
+use ig_wire::*;
 use std::alloc::Global;
 use std::test::Fail;
 
