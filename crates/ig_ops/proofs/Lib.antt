@@ -1,3 +1,4 @@
 pub mod RequestLemmas
 pub mod ResultLemmas
 pub mod PageLemmas
+pub mod AskedLemmas

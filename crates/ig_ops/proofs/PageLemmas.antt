@@ -72,6 +72,13 @@ module _ (cursor : Option ℤ) (rows : List Pair) (more : Bool) (mark : PageMark
       omega (arith, len, at.there, le)
 
 -- the mark of the first row
-pub first_mark : (cursor : Option ℤ) (rows : List Pair) (before : ℕ) → before ≡ length (cursor_bytes cursor) + 4 → before ≡ row_offset cursor rows 0
+first_mark : (cursor : Option ℤ) (rows : List Pair) (before : ℕ) → before ≡ length (cursor_bytes cursor) + 4 → before ≡ row_offset cursor rows 0
 unfolding LE
 first_mark cursor rows before e = omega (arith, e, length-append (cursor_bytes cursor) (LE w32 (pos (length rows))))
+
+pub mark_after_cursor : (cursor : ℤ) (rows : List Pair) → IsPageMark (Some cursor) rows (record { row = 0; before = 12 })
+unfolding LE
+mark_after_cursor cursor rows = record { within = omega arith; there = first_mark (Some cursor) rows 12 refl }
+
+pub mark_after_count : (rows : List Pair) → IsPageMark None rows (record { row = 0; before = 4 })
+mark_after_count rows = record { within = omega arith; there = first_mark None rows 4 refl }

@@ -1,14 +1,16 @@
 //! The bodies of the frames of requests.
 
-ghost use Rattle.std.specs.Prelude.{◌≡◌, ◌++◌};
-ghost use Rattle.ig_fields.specs.Ask.{form_body};
-ghost use Rattle.ig_ops.specs.Requests.{cache_form, key_form, two_form, three_form, keys_form, pairs_form, modes_form, scan_form, cursor_form, call_form, ask_body};
-ghost use Rattle.ig_ops.specs.Views.{rows_written};
+ghost use Rattle.std.specs.Prelude.{◌≡◌, map, negsuc, None};
+ghost use Rattle.ig_value.specs.Part.{i32 as signed_32};
+ghost use Rattle.ig_fields.specs.Format.{byte, both, scalar, unless_null};
+ghost use Rattle.ig_fields.specs.FieldBytes.{fields_bytes};
+ghost use Rattle.ig_fields.specs.Ask.{filled_bytes};
+ghost use Rattle.ig_ops.specs.Requests.{cache_fields, key_fields, two_fields, three_fields, keys_fields, rows_fields, pairs_fields, modes_fields, scan_fields, pair_fields, cache_written, call_form, form_of, ask_body};
 
 use crate::pair_fields::PairFields;
 use ig_caches::{Call, Pair, Request};
-use ig_encode::{Output, ValueOutput, put_byte, put_count, put_i32, put_i64};
-use ig_fields::{Message, put_ask_head, put_items};
+use ig_encode::{Output, ValueOutput, put_byte, put_i32};
+use ig_fields::{FieldFormat, Message, put_ask_head, put_items};
 use ig_value::{Code, Value};
 use ig_wire::Operation;
 
@@ -32,239 +34,215 @@ impl Message for AskBody<'_> {
     ghost bytes = { λ body. ask_body body.id body.request.now };
 
     fn put<S: ValueOutput>(&self, out: &mut S, into: &mut [u8]) {
-        match self.request {
-            Request::Run(call) => put_call(self.id, call, out, into),
-            Request::Scan { cache, page } => put_scan(self.id, *cache, *page, out, into),
-            Request::NextPage { cursor } => {
-                put_cursor(Operation::NextPage, self.id, *cursor, out, into)
-            }
-            Request::Close { resource } => {
-                put_cursor(Operation::CloseResource, self.id, *resource, out, into)
-            }
-        }
+        put_ask(self.id, self.request, out, into);
     }
 }
 
-/// Puts the body of a request to run a call.
-fn put_call<S: ValueOutput>(id: i64, call: &Call, out: &mut S, into: &mut [u8])
+/// Puts the head and the fields of a request.
+fn put_ask<S: ValueOutput>(id: i64, request: &Request, out: &mut S, into: &mut [u8])
     ensures { (out.new, into.new)
-        ≡ S.Output.after out.old into.old (form_body id (call_form call.now)) }
+        ≡ S.Output.after out.old into.old (ask_body id request.now) }
+{
+    put_ask_head(operation_of(request), id, out, into);
+    put_fields(request, out, into);
+}
+
+/// The operation of a request.
+fn operation_of(request: &Request) -> Operation
+    ensures { result ≡ (form_of request.now).operation }
+{
+    match request {
+        Request::Run(call) => call_operation(call),
+        Request::Scan { .. } => Operation::Scan,
+        Request::NextPage { .. } => Operation::NextPage,
+        Request::Close { .. } => Operation::CloseResource,
+    }
+}
+
+/// The operation of a call.
+fn call_operation(call: &Call) -> Operation
+    ensures { result ≡ (call_form call.now).operation }
 {
     match call {
-        Call::Get { cache, key } => put_key(Operation::Get, id, *cache, key, out, into),
-        Call::Put { cache, key, value } => {
-            put_two(Operation::Put, id, *cache, key, value, out, into)
-        }
-        Call::PutIfAbsent { cache, key, value } => {
-            put_two(Operation::PutIfAbsent, id, *cache, key, value, out, into)
-        }
-        Call::GetAll { cache, keys } => {
-            put_keys(Operation::GetAll, id, *cache, keys.as_slice(), out, into)
-        }
-        Call::PutAll { cache, pairs } => put_pairs(id, *cache, pairs.as_slice(), out, into),
-        Call::GetAndPut { cache, key, value } => {
-            put_two(Operation::GetAndPut, id, *cache, key, value, out, into)
-        }
-        Call::GetAndReplace { cache, key, value } => {
-            put_two(Operation::GetAndReplace, id, *cache, key, value, out, into)
-        }
-        Call::GetAndRemove { cache, key } => {
-            put_key(Operation::GetAndRemove, id, *cache, key, out, into)
-        }
-        Call::GetAndPutIfAbsent { cache, key, value } => {
-            put_two(
-                Operation::GetAndPutIfAbsent,
-                id,
-                *cache,
-                key,
-                value,
-                out,
-                into,
-            )
-        }
-        Call::Replace { cache, key, value } => {
-            put_two(Operation::Replace, id, *cache, key, value, out, into)
-        }
+        Call::Get { .. } => Operation::Get,
+        Call::Put { .. } => Operation::Put,
+        Call::PutIfAbsent { .. } => Operation::PutIfAbsent,
+        Call::GetAll { .. } => Operation::GetAll,
+        Call::PutAll { .. } => Operation::PutAll,
+        Call::GetAndPut { .. } => Operation::GetAndPut,
+        Call::GetAndReplace { .. } => Operation::GetAndReplace,
+        Call::GetAndRemove { .. } => Operation::GetAndRemove,
+        Call::GetAndPutIfAbsent { .. } => Operation::GetAndPutIfAbsent,
+        Call::Replace { .. } => Operation::Replace,
+        Call::ReplaceIfEquals { .. } => Operation::ReplaceIfEquals,
+        Call::ContainsKey { .. } => Operation::ContainsKey,
+        Call::ContainsKeys { .. } => Operation::ContainsKeys,
+        Call::Clear { .. } => Operation::Clear,
+        Call::ClearKey { .. } => Operation::ClearKey,
+        Call::ClearKeys { .. } => Operation::ClearKeys,
+        Call::RemoveKey { .. } => Operation::RemoveKey,
+        Call::RemoveIfEquals { .. } => Operation::RemoveIfEquals,
+        Call::RemoveKeys { .. } => Operation::RemoveKeys,
+        Call::RemoveAll { .. } => Operation::RemoveAll,
+        Call::Size { .. } => Operation::GetSize,
+        _ => Operation::CloseResource,
+    }
+}
+
+/// Puts the fields of a request.
+fn put_fields<S: ValueOutput>(request: &Request, out: &mut S, into: &mut [u8])
+    ensures { (out.new, into.new)
+        ≡ S.Output.after out.old into.old (filled_bytes (form_of request.now).filled) }
+{
+    match request {
+        Request::Run(call) => put_call(call, out, into),
+        Request::Scan { cache, page } => put_scan(cache, page, out, into),
+        Request::NextPage { cursor } => <i64 as FieldFormat>::put(cursor, out, into),
+        Request::Close { resource } => <i64 as FieldFormat>::put(resource, out, into),
+    }
+}
+
+/// Puts the fields of a call.
+fn put_call<S: ValueOutput>(call: &Call, out: &mut S, into: &mut [u8])
+    ensures { (out.new, into.new)
+        ≡ S.Output.after out.old into.old (filled_bytes (call_form call.now).filled) }
+{
+    match call {
+        Call::Get { cache, key } => put_key(cache, key, out, into),
+        Call::Put { cache, key, value } => put_two(cache, key, value, out, into),
+        Call::PutIfAbsent { cache, key, value } => put_two(cache, key, value, out, into),
+        Call::GetAll { cache, keys } => put_keys(cache, keys.as_slice(), out, into),
+        Call::PutAll { cache, pairs } => put_pairs(cache, pairs.as_slice(), out, into),
+        Call::GetAndPut { cache, key, value } => put_two(cache, key, value, out, into),
+        Call::GetAndReplace { cache, key, value } => put_two(cache, key, value, out, into),
+        Call::GetAndRemove { cache, key } => put_key(cache, key, out, into),
+        Call::GetAndPutIfAbsent { cache, key, value } => put_two(cache, key, value, out, into),
+        Call::Replace { cache, key, value } => put_two(cache, key, value, out, into),
         Call::ReplaceIfEquals {
             cache,
             key,
             wanted,
             value,
-        } => put_three(
-            Operation::ReplaceIfEquals,
-            id,
-            *cache,
-            key,
-            wanted,
-            value,
-            out,
-            into,
-        ),
-        Call::ContainsKey { cache, key } => {
-            put_key(Operation::ContainsKey, id, *cache, key, out, into)
-        }
-        Call::ContainsKeys { cache, keys } => {
-            put_keys(
-                Operation::ContainsKeys,
-                id,
-                *cache,
-                keys.as_slice(),
-                out,
-                into,
-            )
-        }
-        Call::Clear { cache } => put_cache(Operation::Clear, id, *cache, out, into),
-        Call::ClearKey { cache, key } => put_key(Operation::ClearKey, id, *cache, key, out, into),
-        Call::ClearKeys { cache, keys } => {
-            put_keys(Operation::ClearKeys, id, *cache, keys.as_slice(), out, into)
-        }
-        Call::RemoveKey { cache, key } => put_key(Operation::RemoveKey, id, *cache, key, out, into),
-        Call::RemoveIfEquals { cache, key, wanted } => {
-            put_two(
-                Operation::RemoveIfEquals,
-                id,
-                *cache,
-                key,
-                wanted,
-                out,
-                into,
-            )
-        }
-        Call::RemoveKeys { cache, keys } => {
-            put_keys(
-                Operation::RemoveKeys,
-                id,
-                *cache,
-                keys.as_slice(),
-                out,
-                into,
-            )
-        }
-        Call::RemoveAll { cache } => put_cache(Operation::RemoveAll, id, *cache, out, into),
-        Call::Size { cache, modes } => put_modes(id, *cache, modes.as_slice(), out, into),
-        _ => put_ask_head(Operation::CloseResource, id, out, into),
+        } => put_three(cache, key, wanted, value, out, into),
+        Call::ContainsKey { cache, key } => put_key(cache, key, out, into),
+        Call::ContainsKeys { cache, keys } => put_keys(cache, keys.as_slice(), out, into),
+        Call::Clear { cache } => put_cache(cache, out, into),
+        Call::ClearKey { cache, key } => put_key(cache, key, out, into),
+        Call::ClearKeys { cache, keys } => put_keys(cache, keys.as_slice(), out, into),
+        Call::RemoveKey { cache, key } => put_key(cache, key, out, into),
+        Call::RemoveIfEquals { cache, key, wanted } => put_two(cache, key, wanted, out, into),
+        Call::RemoveKeys { cache, keys } => put_keys(cache, keys.as_slice(), out, into),
+        Call::RemoveAll { cache } => put_cache(cache, out, into),
+        Call::Size { cache, modes } => put_modes(cache, modes.as_slice(), out, into),
+        _ => {}
     }
 }
 
-/// Puts the body of a request on a cache alone, or what the body of another one begins with.
-fn put_cache<S: ValueOutput>(
-    operation: Operation,
-    id: i64,
-    cache: i32,
-    out: &mut S,
-    into: &mut [u8],
-)
-    ensures { (out.new, into.new)
-        ≡ S.Output.after out.old into.old (form_body id (cache_form operation cache)) }
+/// Puts a cache and its flags.
+fn put_cache<S: ValueOutput>(cache: &i32, out: &mut S, into: &mut [u8])
+    ensures { (out.new, into.new) ≡ S.Output.after out.old into.old
+        (fields_bytes cache_fields (cache_written cache.now)) }
 {
-    put_ask_head(operation, id, out, into);
-    put_i32(cache, out, into);
+    <i32 as FieldFormat>::put(cache, out, into);
     put_byte(NO_FLAGS, out, into);
 }
 
-fn put_key<S: ValueOutput>(
-    operation: Operation,
-    id: i64,
-    cache: i32,
-    key: &Value,
-    out: &mut S,
-    into: &mut [u8],
-)
-    ensures { (out.new, into.new)
-        ≡ S.Output.after out.old into.old (form_body id (key_form operation cache key.now)) }
+/// Puts a cache and a key.
+fn put_key<S: ValueOutput>(cache: &i32, key: &Value, out: &mut S, into: &mut [u8])
+    ensures { (out.new, into.new) ≡ S.Output.after out.old into.old
+        (fields_bytes key_fields (cache_written cache.now, key.now)) }
 {
-    put_cache(operation, id, cache, out, into);
+    put_cache(cache, out, into);
     out.put_value(into, key);
 }
 
-fn put_two<S: ValueOutput>(
-    operation: Operation,
-    id: i64,
-    cache: i32,
-    key: &Value,
-    value: &Value,
-    out: &mut S,
-    into: &mut [u8],
-)
-    ensures { (out.new, into.new)
-        ≡ S.Output.after out.old into.old (form_body id (two_form operation cache key.now value.now)) }
+/// Puts a cache, a key, and a value or a wanted value.
+fn put_two<S: ValueOutput>(cache: &i32, key: &Value, value: &Value, out: &mut S, into: &mut [u8])
+    ensures { (out.new, into.new) ≡ S.Output.after out.old into.old
+        (fields_bytes two_fields (cache_written cache.now, (key.now, value.now))) }
 {
-    put_cache(operation, id, cache, out, into);
+    put_cache(cache, out, into);
     out.put_value(into, key);
     out.put_value(into, value);
 }
 
+/// Puts a cache, a key, a wanted value and a value.
 fn put_three<S: ValueOutput>(
-    operation: Operation,
-    id: i64,
-    cache: i32,
+    cache: &i32,
     key: &Value,
     wanted: &Value,
     value: &Value,
     out: &mut S,
     into: &mut [u8],
 )
-    ensures { (out.new, into.new)
-        ≡ S.Output.after out.old into.old (form_body id (three_form operation cache key.now wanted.now value.now)) }
+    ensures { (out.new, into.new) ≡ S.Output.after out.old into.old
+        (fields_bytes three_fields (cache_written cache.now, (key.now, (wanted.now, value.now)))) }
 {
-    put_cache(operation, id, cache, out, into);
+    put_cache(cache, out, into);
     out.put_value(into, key);
     out.put_value(into, wanted);
     out.put_value(into, value);
 }
 
-fn put_keys<S: ValueOutput>(
-    operation: Operation,
-    id: i64,
-    cache: i32,
-    keys: &[Value],
-    out: &mut S,
-    into: &mut [u8],
-)
-    ensures { (out.new, into.new)
-        ≡ S.Output.after out.old into.old (form_body id (keys_form operation cache keys.now)) }
+/// Puts a cache and keys.
+fn put_keys<S: ValueOutput>(cache: &i32, keys: &[Value], out: &mut S, into: &mut [u8])
+    ensures { (out.new, into.new) ≡ S.Output.after out.old into.old
+        (fields_bytes keys_fields (cache_written cache.now, keys.now)) }
 {
-    put_cache(operation, id, cache, out, into);
+    put_cache(cache, out, into);
     put_items::<Value, S>(keys, out, into);
 }
 
-fn put_pairs<S: ValueOutput>(id: i64, cache: i32, pairs: &[Pair], out: &mut S, into: &mut [u8])
-    ensures { (out.new, into.new)
-        ≡ S.Output.after out.old into.old (form_body id (pairs_form cache pairs.now)) }
+/// Puts a cache, and keys with their values.
+fn put_pairs<S: ValueOutput>(cache: &i32, pairs: &[Pair], out: &mut S, into: &mut [u8])
+    ensures { (out.new, into.new) ≡ S.Output.after out.old into.old
+        (fields_bytes pairs_fields (cache_written cache.now, map pair_fields pairs.now)) }
 {
-    put_cache(Operation::PutAll, id, cache, out, into);
+    put_cache(cache, out, into);
+    put_rows(pairs, out, into);
+}
+
+/// Puts keys with their values, and their count.
+fn put_rows<S: ValueOutput>(pairs: &[Pair], out: &mut S, into: &mut [u8])
+    ensures { (out.new, into.new) ≡ S.Output.after out.old into.old
+        (fields_bytes rows_fields (map pair_fields pairs.now)) }
+{
     put_items::<PairFields, S>(pairs, out, into);
 }
 
-fn put_modes<S: ValueOutput>(id: i64, cache: i32, modes: &[u8], out: &mut S, into: &mut [u8])
-    ensures { (out.new, into.new)
-        ≡ S.Output.after out.old into.old (form_body id (modes_form cache modes.now)) }
+/// Puts a cache and modes.
+fn put_modes<S: ValueOutput>(cache: &i32, modes: &[u8], out: &mut S, into: &mut [u8])
+    ensures { (out.new, into.new) ≡ S.Output.after out.old into.old
+        (fields_bytes modes_fields (cache_written cache.now, modes.now)) }
 {
-    put_cache(Operation::GetSize, id, cache, out, into);
+    put_cache(cache, out, into);
     put_items::<u8, S>(modes, out, into);
 }
 
-fn put_scan<S: ValueOutput>(id: i64, cache: i32, page: i32, out: &mut S, into: &mut [u8])
-    ensures { (out.new, into.new)
-        ≡ S.Output.after out.old into.old (form_body id (scan_form cache page)) }
+/// Puts the fields of a scan without a filter.
+fn put_scan<S: ValueOutput>(cache: &i32, page: &i32, out: &mut S, into: &mut [u8])
+    ensures { (out.new, into.new) ≡ S.Output.after out.old into.old
+        (fields_bytes scan_fields (cache_written cache.now, (None, (page.now, (negsuc 0, 0))))) }
 {
-    put_cache(Operation::Scan, id, cache, out, into);
-    put_byte(Code::Null.byte(), out, into);
-    put_i32(page, out, into);
-    put_i32(ALL_PARTITIONS, out, into);
-    put_byte(NOT_LOCAL, out, into);
+    put_cache(cache, out, into);
+    put_no_filter(out, into);
+    put_page_size(page, out, into);
 }
 
-fn put_cursor<S: ValueOutput>(
-    operation: Operation,
-    id: i64,
-    cursor: i64,
-    out: &mut S,
-    into: &mut [u8],
-)
-    ensures { (out.new, into.new)
-        ≡ S.Output.after out.old into.old (form_body id (cursor_form operation cursor)) }
+/// Puts the null that stands for a filter.
+fn put_no_filter<S: ValueOutput>(out: &mut S, into: &mut [u8])
+    ensures { (out.new, into.new) ≡ S.Output.after out.old into.old
+        (fields_bytes (unless_null byte) None) }
 {
-    put_ask_head(operation, id, out, into);
-    put_i64(cursor, out, into);
+    put_byte(Code::Null.byte(), out, into);
+}
+
+/// Puts the page size of a scan of all partitions, which isn't local.
+fn put_page_size<S: ValueOutput>(page: &i32, out: &mut S, into: &mut [u8])
+    ensures { (out.new, into.new) ≡ S.Output.after out.old into.old
+        (fields_bytes (both (scalar signed_32) (both (scalar signed_32) byte)) (page.now, (negsuc 0, 0))) }
+{
+    <i32 as FieldFormat>::put(page, out, into);
+    put_i32(ALL_PARTITIONS, out, into);
+    put_byte(NOT_LOCAL, out, into);
 }

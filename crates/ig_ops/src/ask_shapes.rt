@@ -1,6 +1,6 @@
 //! Reading the fields of requests, by their shape.
 
-ghost use Rattle.std.specs.Prelude.{◌≡◌, ◌≤◌, ℕ, ℤ, List, [], ◌∷◌, length, Some, Result};
+ghost use Rattle.std.specs.Prelude.{◌≡◌, ◌≤◌, ℕ, ℤ, List, [], ◌∷◌, length, Some};
 ghost use Rattle.std.specs.List.{list_any, flat_map};
 ghost use Rattle.ig_value.specs.declared.Value.{Value as a_value};
 ghost use Rattle.ig_caches.specs.declared.call.Call.{Call as a_call};
@@ -8,7 +8,6 @@ ghost use Rattle.ig_caches.specs.declared.request.Request.{Request as a_request}
 ghost use Rattle.ig_caches.specs.declared.request.Request.TheVariants.{Scan as a_scan, Run as a_run};
 ghost use Rattle.ig_caches.specs.declared.call.Call.TheVariants.{PutAll as a_put_all};
 ghost use Rattle.ig_fields.specs.ReadingFields.{is_null as null_test};
-ghost use Rattle.ig_wire.specs.declared.AskFault.{AskFault as a_fault};
 ghost use Rattle.ig_fields.specs.AsksRightly.{asked, served};
 ghost use Rattle.ig_fields.specs.AskAnswers.{AnswersAs, Makes, unless_refused};
 ghost use Rattle.ig_ops.specs.Requests.{pair_values, null_refused, null_among, scan_refused, cache_ask, key_ask, two_ask, three_ask, keys_ask, pairs_ask, modes_ask, scan_ask, cursor_ask};
@@ -60,6 +59,17 @@ pub(crate) fn ask_cache<C: FnOnce(i32) -> Call>(
     Ok(Request::Run(call(cache)))
 }
 
+/// The request to run the call, unless one of its keys and values is null.
+fn run_unless(null: bool, call: Call) -> Result<Request, AskFault>
+    ensures { result ≡ served (a_run call) (null_refused null) }
+{
+    if null {
+        drop(call);
+        return Err(AskFault::Profile(Profile::NullItem));
+    }
+    Ok(Request::Run(call))
+}
+
 /// A request on one key.
 pub(crate) fn ask_key<C: FnOnce((i32, Value)) -> Call>(
     alloc: Global,
@@ -72,10 +82,8 @@ pub(crate) fn ask_key<C: FnOnce((i32, Value)) -> Call>(
         → AnswersAs (asked (Some (key_ask f)) body.now) result }
 {
     let ((cache, _), key) = ask_fields::<KeyFields>(alloc, body)?;
-    if is_null(&key) {
-        return Err(AskFault::Profile(Profile::NullItem));
-    }
-    Ok(Request::Run(call((cache, key))))
+    let null = is_null(&key);
+    run_unless(null, call((cache, key)))
 }
 
 /// Whether one of the two is null.
@@ -90,18 +98,6 @@ fn is_null_among_three(key: &Value, wanted: &Value, value: &Value) -> bool
     ensures { result ≡ list_any null_test (key.now ∷ wanted.now ∷ value.now ∷ []) }
 {
     is_null(key) || is_null_among_two(wanted, value)
-}
-
-/// The request to run the call, unless one of its keys and values is null.
-fn run_unless(null: bool, call: Call) -> Result<Request, AskFault>
-    ensures { (expected : Result a_request a_fault) → expected ≡ served (a_run call) (null_refused null)
-        → AnswersAs expected result }
-{
-    if null {
-        drop(call);
-        return Err(AskFault::Profile(Profile::NullItem));
-    }
-    Ok(Request::Run(call))
 }
 
 /// A request with a key and a value, or a wanted value.
@@ -150,7 +146,7 @@ fn any_null_pair(pairs: &[Pair]) -> bool
 {
     pairs
         .iter()
-        .any(|pair| is_null(&pair.key) || is_null(&pair.value))
+        .any(|pair| is_null_among_two(&pair.key, &pair.value))
 }
 
 /// A request on keys.
@@ -165,10 +161,8 @@ pub(crate) fn ask_keys<C: FnOnce((i32, Items<Value>)) -> Call>(
         → AnswersAs (asked (Some (keys_ask f)) body.now) result }
 {
     let ((cache, _), keys) = ask_fields::<KeysFields>(alloc, body)?;
-    if any_null(keys.as_slice()) {
-        return Err(AskFault::Profile(Profile::NullItem));
-    }
-    Ok(Request::Run(call((cache, keys))))
+    let null = any_null(keys.as_slice());
+    run_unless(null, call((cache, keys)))
 }
 
 /// The call that sets keys with their values, unless one of them is null.
@@ -204,17 +198,17 @@ pub(crate) fn ask_modes(alloc: Global, body: &[u8]) -> Result<Request, AskFault>
 }
 
 /// The request for a scan's first page, unless it has a filter, no room for a row, or a partition.
-fn scan_request(cache: i32, filtered: bool, page: i32, partition: i32) -> Result<Request, Profile>
-    ensures { result ≡ unless_refused (a_scan cache page) (scan_refused filtered page partition) }
+fn scan_unless(filtered: bool, cache: i32, page: i32, partition: i32) -> Result<Request, AskFault>
+    ensures { result ≡ served (a_scan cache page) (scan_refused filtered page partition) }
 {
     if filtered {
-        return Err(Profile::Filter);
+        return Err(AskFault::Profile(Profile::Filter));
     }
     if page < 1 {
-        return Err(Profile::PageSize);
+        return Err(AskFault::Profile(Profile::PageSize));
     }
     if partition >= 0 {
-        return Err(Profile::Partition);
+        return Err(AskFault::Profile(Profile::Partition));
     }
     Ok(Request::Scan { cache, page })
 }
@@ -227,10 +221,7 @@ pub(crate) fn ask_scan(alloc: Global, body: &[u8]) -> Result<Request, AskFault>
     let ((cache, _), (filter, (page, (partition, _)))) = ask_fields::<ScanFields>(alloc, body)?;
     let filtered = filter.is_some();
     drop(filter);
-    match scan_request(cache, filtered, page, partition) {
-        Ok(request) => Ok(request),
-        Err(profile) => Err(AskFault::Profile(profile)),
-    }
+    scan_unless(filtered, cache, page, partition)
 }
 
 /// A request on a cursor.

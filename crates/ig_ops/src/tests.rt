@@ -1,4 +1,4 @@
-ghost use Rattle.std.specs.Prelude.{◌≡◌, ◌≤◌, true, length};
+ghost use Rattle.std.specs.Prelude.{◌≤◌, length, IsTrue};
 ghost use Rattle.ig_fields.specs.Ask.{row_at};
 ghost use Rattle.ig_ops.specs.Requests.{IsOpsRequest};
 ghost use Rattle.ig_ops.specs.Results.{result_of, IsOpsShown};
@@ -6,9 +6,9 @@ ghost use Rattle.ig_ops.specs.ReadAnswers.{IsKnown};
 
 use super::*;
 use ig_base::{Items, Octets};
-use ig_caches::{Call, Page, Request, Shown};
+use ig_caches::{Call, Outcome, Page, Pair, Request, Shown};
 use ig_value::Value;
-use ig_wire::{AskFault, Profile, ReadFault};
+use ig_wire::{AskFault, Operation, Profile, ReadFault};
 use std::alloc::Global;
 use std::test::Fail;
 
@@ -271,7 +271,10 @@ fn ask_frame(op: i16, fields: &[u8]) -> ([u8; ROOM], usize) {
 /// How fields of a request read.
 fn ask_seen(alloc: Global, op: i16, fields: &[u8]) -> Seen {
     let (frame, len) = ask_frame(op, fields);
-    if len < ASK_HEAD || len > ROOM {
+    if len < ASK_HEAD {
+        return Seen::Otherwise;
+    }
+    if len > ROOM {
         return Seen::Otherwise;
     }
     match read_fields(alloc, op, &frame[4..len]) {
@@ -296,7 +299,7 @@ fn ask_written(alloc: Global, request: &Request, frame: &[u8]) -> Seen
 
 /// Whether fields hold for an operation: as they are, cut after each byte, and with a byte more.
 fn ask_holds(alloc: Global, op: i16, fields: &[u8], cuts: &[usize]) -> bool {
-    if fields.len() > ROOM - ASK_HEAD || cuts.len() != fields.len() {
+    if cuts.len() != fields.len() {
         return false;
     }
     for (len, at) in cuts.iter().enumerate() {
@@ -342,15 +345,44 @@ fn requests_are_read_and_written(rt: HostRuntime) -> Result<(), Fail> {
     Ok(())
 }
 
-/// Whether the operation is one of this crate.
+/// Whether the operation with this code is one of this crate.
 fn is_known(op: i16) -> bool
-    ensures known { result ≡ true → IsKnown (row_at result_of op) }
+    ensures { IsTrue result → IsKnown (row_at result_of op) }
 {
-    match op {
-        0 => true,
-        1000..=1020 => true,
-        2000 => true,
-        2001 => true,
+    match Operation::of(op) {
+        Some(operation) => is_own(operation),
+        None => false,
+    }
+}
+
+fn is_own(operation: Operation) -> bool
+    ensures { IsTrue result → IsKnown (result_of operation) }
+{
+    match operation {
+        Operation::Get => true,
+        Operation::Put => true,
+        Operation::PutIfAbsent => true,
+        Operation::GetAll => true,
+        Operation::PutAll => true,
+        Operation::GetAndPut => true,
+        Operation::GetAndReplace => true,
+        Operation::GetAndRemove => true,
+        Operation::GetAndPutIfAbsent => true,
+        Operation::Replace => true,
+        Operation::ReplaceIfEquals => true,
+        Operation::ContainsKey => true,
+        Operation::ContainsKeys => true,
+        Operation::Clear => true,
+        Operation::ClearKey => true,
+        Operation::ClearKeys => true,
+        Operation::RemoveKey => true,
+        Operation::RemoveIfEquals => true,
+        Operation::RemoveKeys => true,
+        Operation::RemoveAll => true,
+        Operation::GetSize => true,
+        Operation::Scan => true,
+        Operation::NextPage => true,
+        Operation::CloseResource => true,
         _ => false,
     }
 }
@@ -358,7 +390,10 @@ fn is_known(op: i16) -> bool
 /// How a result reads that comes after the head of a reply.
 fn result_seen(alloc: Global, op: i16, bytes: &[u8]) -> Seen {
     let mut body = [0u8; ROOM];
-    if bytes.len() > ROOM - HEAD || !is_known(op) {
+    if bytes.len() > ROOM - HEAD {
+        return Seen::Otherwise;
+    }
+    if !is_known(op) {
         return Seen::Otherwise;
     }
     let len = HEAD + bytes.len();
@@ -463,29 +498,52 @@ fn results_are_read_and_written(rt: HostRuntime) -> Result<(), Fail> {
     Ok(())
 }
 
-/// An array of this many bytes.
-fn many_bytes(alloc: Global, count: usize) -> Result<Value, Fail> {
-    let mut bytes = Vec::new(alloc);
-    bytes.resize(count, 97i8)?;
-    Ok(Value::Bytes(Items::new(bytes)))
+/// An array of this many Bytes.
+fn bytes_of(alloc: Global, count: usize) -> Result<Value, Fail> {
+    let mut items = Vec::new(alloc);
+    items.resize(count, 1i8)?;
+    Ok(Value::Bytes(Items::new(items)))
 }
 
-/// A request that puts an array of this many bytes: whether it was appended, and how many bytes there are.
-fn ask_of_bytes(alloc: Global, count: usize) -> Result<(bool, usize), Fail> {
+/// An array of this many Longs.
+fn longs(alloc: Global, count: usize) -> Result<Value, Fail> {
+    let mut items = Vec::new(alloc);
+    items.resize(count, 1i64)?;
+    Ok(Value::Longs(Items::new(items)))
+}
+
+/// A request that sets an array of so many Bytes to one of 1,048,572 Longs: whether it was appended, and
+/// how many bytes there are.
+fn large_ask(alloc: Global, bytes: usize) -> Result<(bool, usize), Fail> {
     let request = Request::Run(Call::Put {
         cache: 3_343_801,
-        key: Value::Int(1),
-        value: many_bytes(alloc, count)?,
+        key: bytes_of(alloc, bytes)?,
+        value: longs(alloc, 1_048_572)?,
     });
     let mut out = Octets::empty(alloc);
-    let done = write_ask(alloc, 1, &request, &mut out)?;
+    let done = write_ask(alloc, ID, &request, &mut out)?;
     Ok((done, out.len()))
 }
 
 /// A request whose frame would be above the limit isn't written.
 #[test]
 fn requests_keep_the_limit(rt: HostRuntime) -> Result<(), Fail> {
-    assert_eq!(rt; ask_of_bytes(rt.alloc(), 8_388_583)?, (true, 8_388_612));
-    assert_eq!(rt; ask_of_bytes(rt.alloc(), 8_388_584)?, (false, 0));
+    assert_eq!(rt; large_ask(rt.alloc(), 7)?, (true, 8_388_612));
+    assert_eq!(rt; large_ask(rt.alloc(), 8)?, (false, 0));
+    Ok(())
+}
+
+/// The length of a result is that of all of its bytes, however many they are.
+#[test]
+fn large_results_have_their_length(rt: HostRuntime) -> Result<(), Fail> {
+    let alloc = rt.alloc();
+    let pair = Pair {
+        key: longs(alloc, 1_048_576)?,
+        value: longs(alloc, 1_048_575)?,
+    };
+    let mut rows = Vec::new(alloc);
+    rows.push(pair)?;
+    let shown = Shown::Out(Outcome::Pairs(Items::new(rows)));
+    assert_eq!(rt; result_len(&shown), 16_777_222);
     Ok(())
 }
