@@ -1,0 +1,7 @@
+pub mod Contents
+pub mod FrameParts
+pub mod Showing
+pub mod Queues
+pub mod Laws
+pub mod RunTerms
+pub mod Turned
