@@ -36,7 +36,7 @@ impl Model for Queue {
 }
 
 impl Queue {
-    ghost use Rattle.std.specs.Prelude.{◌≡◌, ◌≢◌, ◌≤◌, [], length, IfOk, OnOk, OnErr, IsTrue, ◌↔◌};
+    ghost use Rattle.std.specs.Prelude.{◌≡◌, ◌≤◌, [], length, IfOk, OnOk, OnErr, IsTrue, ◌↔◌};
     ghost use Rattle.ig_replies.specs.Showing.{waiting_none, piece_shown, after_gone, after_push, showing};
 
     /// An empty queue. It takes the room for the pieces.
@@ -59,16 +59,16 @@ impl Queue {
 
     /// What is to be written next: up to 65,536 bytes of the first frame; nothing where no reply waits.
     pub fn waiting(&self) -> &[u8]
-        ensures { result.now ≡ piece_shown self.now }
+        ensures shown { result.now ≡ piece_shown self.now }
+        ensures end { (result.now ≡ []) ↔ (self.now.frames ≡ []) }
     {
         self.piece.left()
     }
 
-    /// Adds a reply after the others. Where it comes first it takes no memory. On an error the queue is
-    /// as before.
+    /// Adds a reply of which nothing is gone after the others. Where it comes first it takes no memory. On
+    /// an error the queue is as before.
     pub fn push(&mut self, frame: ReplyFrame) -> Result<(), NoMemory>
-        requires fresh { frame ≡ showing frame.frame }
-        requires some { frame.frame ≢ [] }
+        requires { frame ≡ showing frame.frame }
         ensures ok { OnOk result (self.new ≡ after_push self.old frame.frame) }
         ensures err { OnErr result (self.new ≡ self.old) }
     {

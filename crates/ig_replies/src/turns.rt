@@ -4,7 +4,7 @@ ghost use Rattle.std.specs.Prelude.{◌≡◌, ◌<◌, ◌&&◌, pos, [], ◌�
 ghost use Rattle.ig_caches.specs.declared.request.Request.TheVariants.{Run, Scan, NextPage, Close};
 ghost use Rattle.ig_deals.specs.Deals.{Had};
 ghost use Rattle.ig_deals.specs.Faults.{refusal_of};
-ghost use Rattle.ig_deals.specs.Desk.{Desk as a_desk, cursor_at};
+ghost use Rattle.ig_deals.specs.Desk.{Desk as a_desk, cursor_at, without};
 ghost use Rattle.ig_deals.specs.Replies.{fault_in, reply_frame, fits, shortened};
 ghost use Rattle.ig_deals.specs.Turns.{untold, answers, no_memory, scanned, turn_for, request_turn};
 ghost use Rattle.ig_wire.specs.Heads.{HasShortText};
@@ -208,8 +208,10 @@ pub fn next_page(
     number: i64,
 ) -> Result<ReplyFrame, NoMemory>
     requires { HasNumbers desk.old }
-    ensures { IfOk result (λ frame. IsTurned (terms_of terms.now)
+    ensures ok { IfOk result (λ frame. IsTurned (terms_of terms.now)
         (request_turn (terms_of terms.now) desk.old id (NextPage number) None) frame desk.new) }
+    ensures err { OnErr result (desk.new
+        ≡ record desk.old { cursors = without desk.old.cursors number }) }
 {
     let Some(mut cursor) = desk.take(number) else {
         return Ok(say(terms, id, Content::Refuses(Reason::NoResource)));
