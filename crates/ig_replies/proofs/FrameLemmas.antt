@@ -129,3 +129,18 @@ pub lead_is : (v w : Version) (reply : Reply) (body_len : ℕ) (view : HeadView)
 lead_is v w reply body_len view same is =
     ap (λ (u : Version). LE w32 (pos body_len) ++ head_bytes u (owned_head view)) same
     ∙ ap (λ (h : ReplyHead). LE w32 (pos body_len) ++ head_bytes v h) is
+
+-- the length of what comes before the result is exact, as it is no longer than a frame
+pub lead_exact : (v w : Version) (reply : Reply) (body_len : ℕ) (view : HeadView) (n : ℕ) → w ≡ v → owned_head view ≡ head_of (reply_said reply)
+    → body_len ≡ length (reply_body v (reply_said reply)) → body_len ≤ max_body
+    → n ≡ min (length (LE w32 (pos body_len) ++ head_bytes w (owned_head view))) (2 ^ 128 - 1)
+    → (n ≡ length (lead_bytes v reply body_len)) × (n < 2 ^ 64)
+lead_exact v w reply body_len view n same is len fits measured =
+    let here : length (LE w32 (pos body_len) ++ head_bytes w (owned_head view)) ≡ length (lead_bytes v reply body_len) =
+    ap length (lead_is v w reply body_len view same is) in
+    let few : length (lead_bytes v reply body_len) ≤ 4 + body_len = lead_fits v reply body_len len in
+    (omega (arith, measured, here, few, fits), omega (arith, measured, here, few, fits))
+
+-- what fills a slice stays within the frame
+pub fills_within : (whole gone n room : ℕ) → gone ≤ whole → n ≡ min room (whole - gone) → gone + n ≤ whole
+fills_within whole gone n room le is = omega (arith, le, is)

@@ -63,3 +63,20 @@ pub too_many : (terms : Terms) (desk : Desk) (id minor : ℤ) (cursor : Cursor) 
 too_many terms desk id minor cursor e full =
     cond-true (has_more cursor && nat_le most_cursors (length desk.cursors)) _ _
     (ap (λ (b : Bool). b && nat_le most_cursors (length desk.cursors)) e ∙ full)
+
+-- ---- after a page
+
+-- the cursor opens, or it doesn't
+abbrev pub opened_if : Desk → Bool → Cursor → Desk
+opened_if desk opens cursor = record desk { cursors = desk.cursors ++ (if opens then cursor ∷ [] else []) }
+
+pub none_opens : (desk : Desk) (opens : Bool) (cursor : Cursor) → opens ≡ false → desk ≡ opened_if desk opens cursor
+none_opens desk opens cursor e =
+    ap (λ (cs : List Cursor). record desk { cursors = cs })
+    (sym (append-nil desk.cursors) ∙ ap (λ (l : List Cursor). desk.cursors ++ l) (sym (cond-false opens (cursor ∷ []) [] e)))
+
+pub one_opens : (desk : Desk) (opens : Bool) (cursor : Cursor) → opens ≡ true
+    → record desk { cursors = desk.cursors ++ cursor ∷ [] } ≡ opened_if desk opens cursor
+one_opens desk opens cursor e =
+    ap (λ (cs : List Cursor). record desk { cursors = cs })
+    (ap (λ (l : List Cursor). desk.cursors ++ l) (sym (cond-true opens (cursor ∷ []) [] e)))
