@@ -1,8 +1,10 @@
-use super::*;
 use ig_base::{Items, NoMemory, Octets};
 use ig_caches::{Answer, Call, Outcome, Pair, Why};
 use ig_deals::{Desk, Manner, SessionCfg};
 use ig_encode::encode;
+use ig_replies::{
+    Queue, ReplyFrame, Terms, answer, answer_scan, close, lacks_memory, next_page, refuse,
+};
 use ig_value::Value;
 use ig_wire::{AskFault, Version};
 use std::alloc::Global;
