@@ -1,8 +1,11 @@
-use super::*;
 use ig_base::{Items, NoMemory, Octets};
-use ig_caches::{Answer, Call, Outcome, Pair, Why};
+use ig_caches::{Answer, Call, Outcome, Page, Pair, Shown, Why};
 use ig_deals::{Desk, Manner, SessionCfg};
 use ig_encode::encode;
+use ig_ops::write_result;
+use ig_replies::{
+    Queue, ReplyFrame, Terms, answer, answer_scan, close, lacks_memory, next_page, refuse,
+};
 use ig_value::Value;
 use ig_wire::{AskFault, Version};
 use std::alloc::Global;
@@ -155,10 +158,10 @@ static TOO_LONG: [u8; 35] = [
     116, 111, 111, 32, 108, 111, 110, 103,
 ];
 
-/// Rows of which each has its number as key and value, from 1 on.
-fn five_rows(alloc: Global) -> Result<Items<Pair>, NoMemory> {
+/// Rows of which each has its number as key and value, from 1 up to this one.
+fn rows_to(alloc: Global, last: i32) -> Result<Items<Pair>, NoMemory> {
     let mut rows = Vec::new(alloc);
-    for number in 1..=5 {
+    for number in 1..=last {
         rows.push(Pair {
             key: Value::Int(number),
             value: Value::Int(number),
@@ -181,7 +184,7 @@ fn replied(
         "no memory" => return Ok(lacks_memory(terms, id)),
         "unread" => return refuse(alloc, terms, id, AskFault::Unread { place: 14 }),
         "scan" => {
-            let outcome = Outcome::Pairs(five_rows(alloc)?);
+            let outcome = Outcome::Pairs(rows_to(alloc, 5)?);
             return answer_scan(alloc, terms, desk, id, 7, 2, Answer { minor: 0, outcome });
         }
         "found" => Outcome::Found(Value::Int(2)),
@@ -238,22 +241,24 @@ fn holds(alloc: Global, version: Version, rows: &[Row], step: usize) -> Result<b
     }
 }
 
-/// The frame of a reply with a list of this many bytes, shown by steps.
-fn shows_bytes(alloc: Global, count: usize, step: usize) -> Result<Option<Octets>, NoMemory> {
+/// The frame of a reply with a list of this many bytes.
+fn frame_of_bytes(alloc: Global, count: usize) -> Result<ReplyFrame, NoMemory> {
     let mut bytes = Vec::new(alloc);
     bytes.resize(count, 5)?;
-    let terms = terms_at(Version::V1_0_0);
-    let mut desk = Desk::new(alloc)?;
-    let mut queue = Queue::new(alloc)?;
     let outcome = Outcome::Found(Value::Bytes(Items::new(bytes)));
-    let frame = answer(
+    answer(
         alloc,
-        &terms,
-        &mut desk,
+        &terms_at(Version::V1_0_0),
+        &mut Desk::new(alloc)?,
         1,
         &Call::Names,
         Answer { minor: 0, outcome },
-    )?;
+    )
+}
+
+/// The bytes of a frame, shown by steps.
+fn shows(alloc: Global, frame: ReplyFrame, step: usize) -> Result<Option<Octets>, NoMemory> {
+    let mut queue = Queue::new(alloc)?;
     queue.push(frame)?;
     shown(alloc, &mut queue, step)
 }
@@ -266,6 +271,37 @@ fn is_list(alloc: Global, bytes: &[u8], count: usize) -> Result<bool, NoMemory> 
     wanted.append(&(count as u32 + 17).to_le_bytes())?;
     wanted.append(&[1, 0, 0, 0, 0, 0, 0, 0, 0, 0, 0, 0])?;
     encode(alloc, &Value::Bytes(Items::new(list)), &mut wanted)?;
+    Ok(bytes == wanted.as_slice())
+}
+
+/// The frame of the first page of a scan, which has all of this many rows.
+fn frame_of_rows(alloc: Global, count: i32) -> Result<ReplyFrame, NoMemory> {
+    let terms = terms_at(Version::V1_0_0);
+    let outcome = Outcome::Pairs(rows_to(alloc, count)?);
+    let mut desk = Desk::new(alloc)?;
+    answer_scan(
+        alloc,
+        &terms,
+        &mut desk,
+        1,
+        7,
+        count,
+        Answer { minor: 0, outcome },
+    )
+}
+
+/// Whether the bytes are that frame: a row has 10 bytes, what comes before the rows 24, and one comes
+/// after them.
+fn is_page(alloc: Global, bytes: &[u8], count: i32) -> Result<bool, NoMemory> {
+    let page = Page {
+        cursor: Some(1),
+        rows: rows_to(alloc, count)?,
+        more: false,
+    };
+    let mut wanted = Octets::empty(alloc);
+    wanted.append(&(count * 10 + 25).to_le_bytes())?;
+    wanted.append(&[1, 0, 0, 0, 0, 0, 0, 0, 0, 0, 0, 0])?;
+    write_result(alloc, &Shown::Page(page), &mut wanted)?;
     Ok(bytes == wanted.as_slice())
 }
 
@@ -289,8 +325,8 @@ fn topologies_are_told_once(rt: HostRuntime) -> Result<(), Fail> {
 fn long_values_are_shown_in_pieces(rt: HostRuntime) -> Result<(), Fail> {
     let alloc = rt.alloc();
     for step in [65_536, 50_000, 4_099] {
-        let bytes = shows_bytes(alloc, 200_000, step)?;
-        let Some(bytes) = bytes else {
+        let frame = frame_of_bytes(alloc, 200_000)?;
+        let Some(bytes) = shows(alloc, frame, step)? else {
             assert!(rt; false);
             return Ok(());
         };
@@ -300,16 +336,28 @@ fn long_values_are_shown_in_pieces(rt: HostRuntime) -> Result<(), Fail> {
 }
 
 #[test]
-fn replies_that_are_too_long_are_faults(rt: HostRuntime) -> Result<(), Fail> {
+fn long_pages_are_shown_in_pieces(rt: HostRuntime) -> Result<(), Fail> {
     let alloc = rt.alloc();
-    let longest = 8_388_608 - 17;
-    for (count, is_whole) in [(longest, true), (longest + 1, false)] {
-        let Some(bytes) = shows_bytes(alloc, count, 65_536)? else {
+    for step in [65_536, 50_001] {
+        let frame = frame_of_rows(alloc, 15_000)?;
+        let Some(bytes) = shows(alloc, frame, step)? else {
             assert!(rt; false);
             return Ok(());
         };
-        assert_eq!(rt; bytes.len() == longest + 21, is_whole);
-        assert_eq!(rt; bytes.as_slice() == &TOO_LONG[..], !is_whole);
+        assert!(rt; is_page(alloc, bytes.as_slice(), 15_000)?);
     }
+    Ok(())
+}
+
+#[test]
+fn replies_that_are_too_long_are_faults(rt: HostRuntime) -> Result<(), Fail> {
+    let alloc = rt.alloc();
+    let longest = 8_388_608 - 17;
+    assert_eq!(rt; frame_of_bytes(alloc, longest)?.len(), 8_388_612);
+    let Some(bytes) = shows(alloc, frame_of_bytes(alloc, longest + 1)?, 65_536)? else {
+        assert!(rt; false);
+        return Ok(());
+    };
+    assert_eq!(rt; bytes.as_slice(), &TOO_LONG[..]);
     Ok(())
 }
