@@ -23,7 +23,8 @@ use Rattle.ig_deals.specs.Telling.{told_after}
 use Rattle.ig_deals.specs.Desk.{Cursor, Desk, page_of, has_more, after_page, cursor_at, without}
 use Rattle.ig_deals.specs.Faults.{fault_of}
 use Rattle.ig_deals.specs.Replies.{Reply, Shows, Fails, reply_frame, fits, shortened}
-use Rattle.ig_deals.specs.Turns.{Terms, untold, close_turn, telling, answers, content_of, page_content, open_after, first_page, scanned, cursor_for, pairs_in, scan_answer, next_page, request_turn}
+use Rattle.ig_deals.specs.Turns.{Terms, untold, close_turn, telling, answers, content_of, page_content, open_after, first_page, scanned, cursor_for, pairs_in, scan_answer, next_page, next_turn, request_turn}
+use Rattle.ig_deals.specs.Laws.{IsDesk}
 use Rattle.ig_deals.proofs.CursorLemmas.{found_has, without_none, without_fewer}
 use Rattle.ig_deals.proofs.TakeLemmas.{without_absent}
 use Rattle.ig_replies.specs.Showing.{Showing, showing}
@@ -54,6 +55,18 @@ taken_is_alone k cs c found =
 pub taken_leaves_room : (k : ℤ) (cs : List Cursor) (c : Cursor) → cursor_at cs k ≡ Some c → length cs ≤ most_cursors
     → length (without cs k) < most_cursors
 taken_leaves_room k cs c found few = omega (arith, without_fewer k cs c found, few)
+
+-- ---- the cursor of a scan
+
+-- it has the next number, which no open cursor has
+pub new_is_alone : (desk before : Desk) (cursor left : Cursor) → IsDesk desk → cursor.number ≡ desk.next → before.cursors ≡ desk.cursors
+    → left ≡ after_page cursor → cursor_at before.cursors (pos left.number) ≡ None
+new_is_alone desk before cursor left is next before_is left_is =
+    let within : desk.next ≤ desk.next = omega arith in
+    let number : left.number ≡ desk.next = ap (λ (c : Cursor). c.number) left_is ∙ next in
+    ap (λ (cs : List Cursor). cursor_at cs (pos left.number)) before_is
+    ∙ ap (λ (n : ℕ). cursor_at desk.cursors (pos n)) number
+    ∙ is.unused desk.next within
 
 -- ---- scans
 
@@ -186,6 +199,22 @@ one_opens desk opens cursor e =
 pub none_taken : (desk now : Desk) (k : ℤ) → cursor_at desk.cursors k ≡ None → now ≡ record desk { cursors = without desk.cursors k } → now ≡ desk
 none_taken desk now k none is =
     is ∙ ap (λ (cs : List Cursor). record desk { cursors = cs }) (without_absent k desk.cursors none)
+
+-- and a page that is asked of it is refused
+pub none_next : (terms : Terms) (desk now : Desk) (id k : ℤ) (frame : Showing) → cursor_at desk.cursors k ≡ None
+    → now ≡ record desk { cursors = without desk.cursors k }
+    → frame ≡ showing (reply_frame terms.version (shortened terms.version (untold id (Fails (fault_of reason.NoResource)))))
+    → IsTurned terms (next_turn terms desk id k (cursor_at desk.cursors k)) frame now
+none_next terms desk now id k frame none now_is frame_is =
+    subst (λ (o : Option Cursor). IsTurned terms (next_turn terms desk id k o) frame now) (sym none)
+    (record { frame_is = frame_is; desk_is = none_taken desk now k none now_is })
+
+-- a page that is asked of an open cursor
+pub some_next : (terms : Terms) (desk now : Desk) (id k : ℤ) (cursor : Cursor) (frame : Showing) → cursor_at desk.cursors k ≡ Some cursor
+    → IsTurned terms (next_page terms desk k cursor (untold id (page_content None cursor))) frame now
+    → IsTurned terms (next_turn terms desk id k (cursor_at desk.cursors k)) frame now
+some_next terms desk now id k cursor frame found turned =
+    subst (λ (o : Option Cursor). IsTurned terms (next_turn terms desk id k o) frame now) (sym found) turned
 
 -- a cursor is closed
 pub closed_some : (terms : Terms) (desk now : Desk) (id i number k : ℤ) (cursor : Cursor) (frame : Showing) → i ≡ id → k ≡ number
