@@ -1,5 +1,6 @@
 pub mod Contents
 pub mod Results
+pub mod RowMarks
 pub mod FrameParts
 pub mod Showing
 pub mod Queues
