@@ -17,13 +17,13 @@ use Rattle.ig_caches.specs.declared.answer.Answer.{Answer}
 use Rattle.ig_caches.specs.declared.answer.Outcome.{Outcome}
 use Rattle.ig_caches.specs.declared.answer.Outcome.TheVariants as outcome
 use Rattle.ig_caches.specs.declared.request.Request.TheVariants.{Scan}
-use Rattle.ig_caches.specs.declared.request.Shown.TheVariants.{Page}
+use Rattle.ig_caches.specs.declared.request.Shown.TheVariants.{Page, Out}
 use Rattle.ig_deals.specs.Deals.{Had}
 use Rattle.ig_deals.specs.Telling.{told_after}
 use Rattle.ig_deals.specs.Desk.{Cursor, Desk, page_of, has_more, after_page, cursor_at, without}
 use Rattle.ig_deals.specs.Faults.{fault_of}
 use Rattle.ig_deals.specs.Replies.{Reply, Shows, Fails, reply_frame, fits, shortened}
-use Rattle.ig_deals.specs.Turns.{Terms, telling, answers, content_of, page_content, open_after, first_page, scanned, cursor_for, pairs_in, scan_answer, next_page, request_turn}
+use Rattle.ig_deals.specs.Turns.{Terms, untold, close_turn, telling, answers, content_of, page_content, open_after, first_page, scanned, cursor_for, pairs_in, scan_answer, next_page, request_turn}
 use Rattle.ig_deals.proofs.CursorLemmas.{found_has, without_none, without_fewer}
 use Rattle.ig_deals.proofs.TakeLemmas.{without_absent}
 use Rattle.ig_replies.specs.Showing.{Showing, showing}
@@ -186,3 +186,29 @@ one_opens desk opens cursor e =
 pub none_taken : (desk now : Desk) (k : ℤ) → cursor_at desk.cursors k ≡ None → now ≡ record desk { cursors = without desk.cursors k } → now ≡ desk
 none_taken desk now k none is =
     is ∙ ap (λ (cs : List Cursor). record desk { cursors = cs }) (without_absent k desk.cursors none)
+
+-- a cursor is closed
+pub closed_some : (terms : Terms) (desk now : Desk) (id i number k : ℤ) (cursor : Cursor) (frame : Showing) → i ≡ id → k ≡ number
+    → cursor_at desk.cursors k ≡ Some cursor → now ≡ record desk { cursors = without desk.cursors k }
+    → frame ≡ showing (reply_frame terms.version (shortened terms.version (untold i (Shows (Out outcome.Done)))))
+    → IsTurned terms (close_turn terms desk id number (cursor_at desk.cursors number)) frame now
+closed_some terms desk now id i number k cursor frame i_is k_is found now_is frame_is =
+    let here : cursor_at desk.cursors number ≡ Some cursor = sym (ap (cursor_at desk.cursors) k_is) ∙ found in
+    subst (λ (o : Option Cursor). IsTurned terms (close_turn terms desk id number o) frame now) (sym here) (record {
+      frame_is = frame_is
+          ∙ ap (λ (n : ℤ). showing (reply_frame terms.version (shortened terms.version (untold n (Shows (Out outcome.Done)))))) i_is;
+      desk_is = now_is ∙ ap (λ (n : ℤ). record desk { cursors = without desk.cursors n }) k_is;
+    })
+
+-- none has the number
+pub closed_none : (terms : Terms) (desk now : Desk) (id i number k : ℤ) (frame : Showing) → i ≡ id → k ≡ number
+    → cursor_at desk.cursors k ≡ None → now ≡ record desk { cursors = without desk.cursors k }
+    → frame ≡ showing (reply_frame terms.version (shortened terms.version (untold i (Fails (fault_of reason.NoResource)))))
+    → IsTurned terms (close_turn terms desk id number (cursor_at desk.cursors number)) frame now
+closed_none terms desk now id i number k frame i_is k_is found now_is frame_is =
+    let here : cursor_at desk.cursors number ≡ None = sym (ap (cursor_at desk.cursors) k_is) ∙ found in
+    subst (λ (o : Option Cursor). IsTurned terms (close_turn terms desk id number o) frame now) (sym here) (record {
+      frame_is = frame_is
+          ∙ ap (λ (n : ℤ). showing (reply_frame terms.version (shortened terms.version (untold n (Fails (fault_of reason.NoResource)))))) i_is;
+      desk_is = none_taken desk now k found now_is;
+    })
