@@ -18,5 +18,6 @@ invariant_of-result c = (
     lead = (lead_exact c.args.version c.head_at.result.version c.args.reply c.args.body_len c.head_at.result.view c.message_len-lead_len.result
         c.head_at.ensures.version c.head_at.ensures.view c.requires.len c.requires.fits c.message_len-lead_len.ensures).0;
   },
+  c.first_mark-mark.ensures,
   omega arith,
 )

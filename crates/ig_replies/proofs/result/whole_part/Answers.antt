@@ -1,7 +1,7 @@
 use Rattle.std.proofs.Common.{◌≡◌, List, ℕ, ◌-◌, ◌++◌, length, take, drop, sym, ap, ◌∙◌}
 use Rattle.std.specs.Prelude.{min}
 use Rattle.ig_replies.proofs.ResultLemmas.{meta_shown, meta_bytes, other_bytes}
-use Rattle.ig_replies.proofs.result.shown_part.Goals as goal
+use Rattle.ig_replies.proofs.result.whole_part.Goals as goal
 
 pub result_part-requires : goal.result_part-requires
 result_part-requires c = meta_shown c.args.shown.now (sym c.is_meta.ensures ∙ c.if-is_meta.true)
