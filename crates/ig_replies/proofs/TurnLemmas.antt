@@ -17,6 +17,7 @@ use Rattle.ig_caches.specs.declared.answer.Answer.{Answer}
 use Rattle.ig_caches.specs.declared.answer.Outcome.{Outcome}
 use Rattle.ig_caches.specs.declared.answer.Outcome.TheVariants as outcome
 use Rattle.ig_caches.specs.declared.request.Request.TheVariants.{Scan}
+use Rattle.ig_caches.specs.declared.request.Page.{Page as ShownPage}
 use Rattle.ig_caches.specs.declared.request.Shown.TheVariants.{Page, Out}
 use Rattle.ig_deals.specs.Deals.{Had}
 use Rattle.ig_deals.specs.Telling.{told_after}
@@ -125,7 +126,7 @@ abbrev pub page_reply : ℤ → Option Topology → Option ℤ → List Pair →
 page_reply id told number rows more = record {
   id = id;
   told = told;
-  content = Shows (shown.Page (record { cursor = number; rows = rows; more = more }));
+  content = Shows (Page (record { cursor = number; rows = rows; more = more }));
 }
 
 pub page_is : (id : ℤ) (told said : Option Topology) (number shown : Option ℤ) (rows : List Pair) (more : Bool) (cursor : Cursor)
@@ -196,22 +197,22 @@ one_opens desk opens cursor e =
 -- ---- pages of open cursors
 
 -- a page was taken out of a cursor, which was open
-pub paged_is : (o : Option Cursor) (page : Page) (left : Cursor) → option_map paged o ≡ Some (page, left)
+pub paged_is : (o : Option Cursor) (page : ShownPage) (left : Cursor) → option_map paged o ≡ Some (page, left)
     → (cursor : Cursor) × (o ≡ Some cursor) × (page ≡ page_shown None cursor) × (left ≡ after_page cursor)
 paged_is None page left e = absurd (clash e) where
-  clash : {p : Page × Cursor} → None ≡ Some p → ⊥
+  clash : {p : ShownPage × Cursor} → None ≡ Some p → ⊥
   clash h = cc
 paged_is (Some cursor) page left e =
     let same : paged cursor ≡ (page, left) = inside e in
-    (cursor, refl, ap (λ (p : Page × Cursor). p.0) (sym same), ap (λ (p : Page × Cursor). p.1) (sym same)) where
-  inside : {p q : Page × Cursor} → Some p ≡ Some q → p ≡ q
+    (cursor, refl, ap (λ (p : ShownPage × Cursor). p.0) (sym same), ap (λ (p : ShownPage × Cursor). p.1) (sym same)) where
+  inside : {p q : ShownPage × Cursor} → Some p ≡ Some q → p ≡ q
   inside h = cc
 
 -- none was open
 pub none_paged : (o : Option Cursor) → option_map paged o ≡ None → o ≡ None
 none_paged None e = refl
 none_paged (Some cursor) e = absurd (clash e) where
-  clash : {p : Page × Cursor} → Some p ≡ None → ⊥
+  clash : {p : ShownPage × Cursor} → Some p ≡ None → ⊥
   clash h = cc
 
 -- ---- requests on an open cursor
