@@ -205,8 +205,8 @@ paged_is None page left e = absurd (clash e) where
 paged_is (Some cursor) page left e =
     let same : paged cursor ≡ (page, left) = inside e in
     (cursor, refl, ap (λ (p : ShownPage × Cursor). p.0) (sym same), ap (λ (p : ShownPage × Cursor). p.1) (sym same)) where
-  inside : {p q : ShownPage × Cursor} → Some p ≡ Some q → p ≡ q
-  inside h = cc
+      inside : {p q : ShownPage × Cursor} → Some p ≡ Some q → p ≡ q
+      inside h = cc
 
 -- none was open
 pub none_paged : (o : Option Cursor) → option_map paged o ≡ None → o ≡ None
