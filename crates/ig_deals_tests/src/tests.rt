@@ -40,3 +40,21 @@ fn cursors_are_taken_by_number(rt: HostRuntime) -> Result<(), Fail> {
     assert_eq!(rt; (number, first, more, last, ended), (1, 2, true, 1, true));
     Ok(())
 }
+
+#[test]
+fn pages_are_taken_by_number(rt: HostRuntime) -> Result<(), Fail> {
+    let alloc = rt.alloc();
+    let mut desk = Desk::new(alloc)?;
+    let rows = numbered_rows(alloc, 3)?;
+    desk.open(OpenCursor::new(1, 2, rows));
+    assert!(rt; desk.take_page(2)?.is_none());
+    let Some((page, cursor)) = desk.take_page(1)? else {
+        assert!(rt; false);
+        return Ok(());
+    };
+    assert!(rt; desk.take(1).is_none());
+    let shown = (page.cursor, page.rows.as_slice().len(), page.more);
+    assert_eq!(rt; shown, (None, 2, true));
+    assert_eq!(rt; (cursor.number(), cursor.has_more()), (1, false));
+    Ok(())
+}

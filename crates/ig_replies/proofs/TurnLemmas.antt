@@ -1,6 +1,6 @@
 -- What may be told, and the cursors of turns.
 use Rattle.std.proofs.Common.{◌≡◌, ℕ, suc, ◌<◌, ◌≤◌, ℤ, pos, Bool, true, false, List, [], ◌∷◌, ◌++◌, length, Option, None, Some, refl, sym, ap, subst, ◌∙◌, append-nil, arith}
-use Rattle.std.specs.Prelude.{◌&&◌, nat_le, if◌then◌else◌}
+use Rattle.std.specs.Prelude.{◌&&◌, nat_le, option_map, if◌then◌else◌}
 use Rattle.std.proofs.lemmas.Bool.{cond-true, cond-false}
 use Rattle.std.proofs.lemmas.Bool.Decides.{Decides-int_eq}
 use Rattle.ig_wire.specs.declared.reason.Reason.TheVariants as reason
@@ -17,10 +17,11 @@ use Rattle.ig_caches.specs.declared.answer.Answer.{Answer}
 use Rattle.ig_caches.specs.declared.answer.Outcome.{Outcome}
 use Rattle.ig_caches.specs.declared.answer.Outcome.TheVariants as outcome
 use Rattle.ig_caches.specs.declared.request.Request.TheVariants.{Scan}
+use Rattle.ig_caches.specs.declared.request.Page.{Page as ShownPage}
 use Rattle.ig_caches.specs.declared.request.Shown.TheVariants.{Page, Out}
 use Rattle.ig_deals.specs.Deals.{Had}
 use Rattle.ig_deals.specs.Telling.{told_after}
-use Rattle.ig_deals.specs.Desk.{Cursor, Desk, page_of, has_more, after_page, cursor_at, without}
+use Rattle.ig_deals.specs.Desk.{Cursor, Desk, page_of, page_shown, has_more, after_page, paged, cursor_at, without}
 use Rattle.ig_deals.specs.Faults.{fault_of}
 use Rattle.ig_deals.specs.Replies.{Reply, Shows, Fails, reply_frame, fits, shortened}
 use Rattle.ig_deals.specs.Turns.{Terms, untold, close_turn, telling, answers, content_of, page_content, open_after, first_page, scanned, cursor_for, pairs_in, scan_answer, next_page, next_turn, request_turn}
@@ -192,6 +193,27 @@ pub one_opens : (desk : Desk) (opens : Bool) (cursor : Cursor) → opens ≡ tru
 one_opens desk opens cursor e =
     ap (λ (cs : List Cursor). record desk { cursors = cs })
     (ap (λ (l : List Cursor). desk.cursors ++ l) (sym (cond-true opens (cursor ∷ []) [] e)))
+
+-- ---- pages of open cursors
+
+-- a page was taken out of a cursor, which was open
+pub paged_is : (o : Option Cursor) (page : ShownPage) (left : Cursor) → option_map paged o ≡ Some (page, left)
+    → (cursor : Cursor) × (o ≡ Some cursor) × (page ≡ page_shown None cursor) × (left ≡ after_page cursor)
+paged_is None page left e = absurd (clash e) where
+  clash : {p : ShownPage × Cursor} → None ≡ Some p → ⊥
+  clash h = cc
+paged_is (Some cursor) page left e =
+    let same : paged cursor ≡ (page, left) = inside e in
+    (cursor, refl, ap (λ (p : ShownPage × Cursor). p.0) (sym same), ap (λ (p : ShownPage × Cursor). p.1) (sym same)) where
+      inside : {p q : ShownPage × Cursor} → Some p ≡ Some q → p ≡ q
+      inside h = cc
+
+-- none was open
+pub none_paged : (o : Option Cursor) → option_map paged o ≡ None → o ≡ None
+none_paged None e = refl
+none_paged (Some cursor) e = absurd (clash e) where
+  clash : {p : ShownPage × Cursor} → Some p ≡ None → ⊥
+  clash h = cc
 
 -- ---- requests on an open cursor
 
