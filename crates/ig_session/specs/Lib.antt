@@ -11,6 +11,7 @@ pub mod StepsAhead
 pub mod StandsFor
 pub mod StandsAhead
 pub mod Laws
+pub mod LawsAhead
 pub mod Histories
 pub mod StandsAlone
 pub mod Serving

@@ -77,14 +77,19 @@ abbrev pub LooksAtCursors : Option Deal → Type 0
 LooksAtCursors None = ⊥
 LooksAtCursors (Some deal) = is_at_cursors deal.asked.request ≡ true
 
--- The replies stand in this order, by the places of their requests: each that is due stands there once, and what
--- looks at cursors stands after exactly the requests before it.
+-- The replies stand in this order, by the places of their requests: each at most once, none that isn't due, and what
+-- looks at cursors after exactly the requests before it.
 pub record IsOrder (deals : List Deal) (order : List ℕ) : Type 0 where
-  pub due : (place : ℕ) → Contains order place ↔ IsDue (slice_get deals place)
+  pub due : (place : ℕ) → Contains order place → IsDue (slice_get deals place)
   pub once : (before after : List ℕ) (place : ℕ) → order ≡ before ++ place ∷ after
       → ¬ (Contains before place) × ¬ (Contains after place)
   pub behind : (before after : List ℕ) (place : ℕ) → order ≡ before ++ place ∷ after
       → LooksAtCursors (slice_get deals place) → (other : ℕ) → Contains before other ↔ (other < place)
+
+-- each reply that is due stands in the order, save where memory ran out
+abbrev pub HasEach : Phase → List Deal → List ℕ → Type 0
+HasEach OutOfMemory deals order = Unit {0}
+HasEach phase deals order = (place : ℕ) → IsDue (slice_get deals place) → Contains order place
 
 -- the frames of the replies in this order
 abbrev pub in_order : List (List ℕ) → List ℕ → List (List ℕ)
@@ -111,7 +116,7 @@ pub record IsOpenAhead (terms : Terms) (s : State) (bodies : List (List ℕ)) (d
   pub accepted : Hello
   pub greets : greeting_of hello ≡ Ok accepted
   pub terms_are : terms ≡ terms_at s.cfg crew_manner accepted.version
-  pub desk_is : s.out ≡ [] → s.desk ≡ desk_after terms fresh_desk deals
+  pub desk_is : s.desk ≡ desk_after terms fresh_desk deals
 
 abbrev pub IsInAhead : Phase → State → List (List ℕ) → List Deal → Type 0
 IsInAhead BeforeHello s bodies deals = (bodies ≡ []) × (s.desk ≡ fresh_desk)
@@ -119,16 +124,12 @@ IsInAhead (Open terms) s bodies deals = IsOpenAhead (terms_of terms) s bodies de
 IsInAhead (Refused fault) s bodies deals = IsRefused bodies fault
 IsInAhead OutOfMemory s bodies deals = Unit {0}
 
--- while memory lasts, the replies that are due were written or wait
-abbrev pub IsOrderIn : Phase → List Deal → List ℕ → Type 0
-IsOrderIn OutOfMemory deals order = Unit {0}
-IsOrderIn phase deals order = IsOrder deals order
-
 -- ---- the whole
 
 -- The session was fed this input and has read the bodies that it begins with. The calls that they ask for were
 -- handed out, each once and in order, and this was given for each that isn't out. The output and what waits
--- are the reply to the hello and the replies that are due, in this order; where memory ran out, the first of them.
+-- are the reply to the hello and the replies that are due, in this order; where memory ran out, some of them may
+-- be missing.
 pub record StandsAhead (s : State) (input : List ℕ) (ran : List HandedAhead) (order : List ℕ) (output : List ℕ) : Type 0 where
   pub bodies : List (List ℕ)
   pub read : HandedOut client s.stream input bodies
@@ -137,5 +138,6 @@ pub record StandsAhead (s : State) (input : List ℕ) (ran : List HandedAhead) (
   pub out : s.out ≡ out_among 0 (dealt_ahead (asks bodies) (given_so_far ran))
   pub count : s.handed ≡ length ran
   pub phase : IsInAhead s.phase s bodies (dealt_ahead (asks bodies) (given_so_far ran))
-  pub order_is : IsOrderIn s.phase (dealt_ahead (asks bodies) (given_so_far ran)) order
+  pub order_is : IsOrder (dealt_ahead (asks bodies) (given_so_far ran)) order
+  pub each : HasEach s.phase (dealt_ahead (asks bodies) (given_so_far ran)) order
   pub shows : output ++ bytes_left s.waiting ≡ joined (out_ahead s.cfg bodies (dealt_ahead (asks bodies) (given_so_far ran)) order)

@@ -51,7 +51,7 @@ abbrev pub IsIn : Phase → State → List (List ℕ) → List Ran → Type 0
 IsIn BeforeHello s bodies ran = (bodies ≡ []) × (s.desk ≡ fresh_desk)
 IsIn (Open terms) s bodies ran = IsOpenAt (terms_of terms) s bodies ran
 IsIn (Refused fault) s bodies ran = IsRefused bodies fault
-IsIn OutOfMemory s bodies ran = Unit {0}
+IsIn OutOfMemory s bodies ran = s.out ≡ []
 
 -- ---- calls that are out
 

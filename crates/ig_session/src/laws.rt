@@ -2,6 +2,7 @@
 //! each step.
 
 ghost use Rattle.ig_session.specs.Laws.{NewStands, FedStands, StepStands, AnswerStands, LostAnswerStands, LackStands, WrittenStands, StopIsEnd, FaultIsEnd, PauseIsEnd};
+ghost use Rattle.ig_session.specs.LawsAhead.{NewStandsAhead, FedStandsAhead, StepStandsAhead, AnswerStandsAhead, WrittenStandsAhead};
 
 /// A session stands for the input that it was fed, the calls that it handed out with what was given for
 /// them, and the output that was written: nothing at first, and the longer lists after each call. A
@@ -14,6 +15,16 @@ pub fn sessions_stand()
     ensures lost { LostAnswerStands }
     ensures lack { LackStands }
     ensures written { WrittenStands }
+{}
+
+/// The same of a session of which several calls may be out: an answer adds its own reply after all others,
+/// and changes no other.
+pub fn sessions_stand_ahead()
+    ensures new { NewStandsAhead }
+    ensures fed { FedStandsAhead }
+    ensures step { StepStandsAhead }
+    ensures answer { AnswerStandsAhead }
+    ensures written { WrittenStandsAhead }
 {}
 
 /// A session that stops, that waits for input which ends, or that a fault ends, has run to this end.

@@ -35,7 +35,10 @@ mod step;
 
 pub use caller::{Alone, Caller};
 pub use ig_deals::{SessionCfg, SessionEnd};
-pub use laws::{sessions_end, sessions_stand};
+pub use laws::{sessions_end, sessions_stand, sessions_stand_ahead};
 pub use serve::{serve_ends, serve_link};
 pub use session::Session;
 pub use step::{Ahead, Step};
+
+#[cfg(test)]
+mod tests;
