@@ -3,11 +3,10 @@ use Rattle.std.specs.Prelude.{◌≡◌, ℕ, ◌<◌, ◌≤◌, List, [], ◌�
 use Rattle.ig_base.specs.Numbers.{AreBytes}
 use Rattle.ig_wire.specs.Limits.{most_session_bytes}
 use Rattle.ig_caches.specs.declared.call.Call.{Call}
-use Rattle.ig_caches.specs.AnswersKind.{AnswersKind}
 use Rattle.ig_deals.specs.declared.cfg.SessionCfg.{SessionCfg}
 use Rattle.ig_deals.specs.declared.end.SessionEnd.{SessionEnd}
 use Rattle.ig_deals.specs.declared.end.SessionEnd.TheVariants as ends
-use Rattle.ig_deals.specs.Deals.{Got, Had, NoMemory, Ran}
+use Rattle.ig_deals.specs.Deals.{Got, Ran}
 use Rattle.ig_deals.specs.Telling.{session_manner}
 use Rattle.ig_deals.specs.Serves.{Runs}
 use Rattle.ig_replies.specs.Showing.{piece_shown}
@@ -38,15 +37,10 @@ StepStands =
     (s : State) (input : List ℕ) (ran : List Ran) (output : List ℕ) → IsSound s
     → Stands s input ran [] output → StandsAfter (next_step s).0 (next_step s).1 input ran output
 
--- the answer has the kind that the call asks for
-abbrev pub GotFits : Call → Got → Type 0
-GotFits call (Had answer) = AnswersKind call answer.outcome
-GotFits call NoMemory = Unit {0}
-
 -- an answer adds to what was given for calls
 abbrev pub AnswerStands : Type 0
 AnswerStands =
-    (s : State) (input : List ℕ) (ran : List Ran) (call : Call) (got : Got) (output : List ℕ) → GotFits call got
+    (s : State) (input : List ℕ) (ran : List Ran) (call : Call) (got : Got) (output : List ℕ) → IsSound s
     → Stands s input ran (call ∷ []) output
     → Stands (answered s got) input (ran ++ record { call = call; got = got } ∷ []) [] output
 
@@ -90,7 +84,7 @@ FaultIsEnd =
 abbrev pub PauseIsEnd : Type 0
 PauseIsEnd =
     (s : State) (input : List ℕ) (ran : List Ran) (output : List ℕ) (missing : ℕ) → IsSound s
-    → Stands s input ran [] output → coming s ≡ Misses missing
+    → length input ≤ most_session_bytes → Stands s input ran [] output → coming s ≡ Misses missing
     → (length input < most_session_bytes → Runs s.cfg session_manner input output ran (end_at s (coming s))
     × Runs s.cfg session_manner input output ran ends.ReadFault)
     × (length input ≡ most_session_bytes → Runs s.cfg session_manner input output ran ends.ByteLimit)

@@ -11,7 +11,6 @@ use Rattle.ig_session.specs.States.{State, new_state}
 use Rattle.ig_session.specs.Soundness.{IsSound}
 use Rattle.ig_session.specs.Steps.{fed, written}
 use Rattle.ig_session.specs.StepsAhead.{step_ahead, answered_nth}
-use Rattle.ig_session.specs.Laws.{GotFits}
 use Rattle.ig_session.specs.StandsAhead.{HandedAhead, StandsAhead}
 
 abbrev pub NewStandsAhead : Type 0
@@ -45,7 +44,7 @@ with_got (r ∷ ran) (suc nth) got = r ∷ with_got ran nth got
 abbrev pub AnswerStandsAhead : Type 0
 AnswerStandsAhead =
     (s : State) (input : List ℕ) (ran : List HandedAhead) (order output : List ℕ) (nth : ℕ) (call : Call) (got : Got)
-    → IsSound s → GotFits call got → slice_get ran nth ≡ Some (record { call = call; got = None })
+    → IsSound s → slice_get ran nth ≡ Some (record { call = call; got = None })
     → StandsAhead s input ran order output
     → (more : List ℕ) × (length more ≤ 1)
     × StandsAhead (answered_nth s nth got) input (with_got ran nth got)

@@ -19,7 +19,6 @@ use Rattle.ig_session.specs.States.{State}
 use Rattle.ig_session.specs.Comings.{IsPaused}
 use Rattle.ig_session.specs.Steps.{written, answered, IsSpent}
 use Rattle.ig_session.specs.StandsFor.{Stands}
-use Rattle.ig_session.specs.Laws.{GotFits}
 
 -- a source that has ended without a failed read, with nothing left where its reads hold
 pub record HasEnded (old new : SourceState) : Type 0 where
@@ -78,10 +77,6 @@ SendsWaiting old new sink sink' (Err end) =
     (end ≡ ends.WriteFault) × (new ≡ old) × ((sent : ℕ) × SentPart sent sink sink' (piece_shown old.waiting))
 
 -- a call was run, and its answer given to the session
-pub record RunsCall {C : Type 0} (stands : C → PlainCaches → List (Entry Call Answer) → Type 0) (seat : ℕ) (caller caller' : C) (call : Call) (got : Got) : Type 0 where
-  pub fits : GotFits call got
-  pub keeps : StandsOn stands caller caller' (entry_of seat call got)
-
 abbrev pub GivesAnswer : {A : Type 0} → State → State → Got → Result A SessionEnd → Type 0
 GivesAnswer old new got (Ok done) = new ≡ answered old got
 GivesAnswer old new got (Err end) = (end ≡ ends.NoMemory) × IsSpent old new []

@@ -2,6 +2,7 @@
 use Rattle.std.specs.Prelude.{◌≡◌, ℕ, ◌+◌, ◌<◌, ◌≤◌, ◌^◌, List, [], length}
 use Rattle.std.specs.List.{AllByRecursion}
 use Rattle.ig_base.specs.Frames.{max_body}
+use Rattle.ig_deals.specs.declared.cfg.SessionCfg.{SessionCfg}
 use Rattle.ig_deals.specs.Laws.{IsDesk}
 use Rattle.ig_replies.specs.RunTerms.{AreTerms}
 use Rattle.ig_replies.specs.Laws.{IsBegun}
@@ -20,11 +21,11 @@ abbrev pub most_held : ℕ
 most_held = 8454148
 
 -- calls are out only while a session is open, or after it ran out of memory
-abbrev pub IsSoundPhase : Phase → State → Type 0
-IsSoundPhase BeforeHello s = s.out ≡ []
-IsSoundPhase (Open terms) s = AreTerms terms × (terms.cfg ≡ s.cfg)
-IsSoundPhase (Refused fault) s = s.out ≡ []
-IsSoundPhase OutOfMemory s = Unit {0}
+abbrev pub IsSoundPhase : Phase → SessionCfg → List Awaited → Type 0
+IsSoundPhase BeforeHello cfg out = out ≡ []
+IsSoundPhase (Open terms) cfg out = AreTerms terms × (terms.cfg ≡ cfg)
+IsSoundPhase (Refused fault) cfg out = out ≡ []
+IsSoundPhase OutOfMemory cfg out = Unit {0}
 
 abbrev pub IsNumbered : ℕ → Awaited → Type 0
 IsNumbered handed awaited = awaited.nth < handed
@@ -34,7 +35,7 @@ pub record IsSound (s : State) : Type 0 where
   pub cfg : IsCfg s.cfg
   pub limit : s.stream.limit ≡ max_body
   pub fed : s.stream.place + length s.stream.rest ≤ most_fed
-  pub phase : IsSoundPhase s.phase s
+  pub phase : IsSoundPhase s.phase s.cfg s.out
   pub desk : IsDesk s.desk
   pub cursors : s.desk.next + length s.out ≤ s.stream.place + 1
   pub calls : s.handed ≤ s.stream.place

@@ -10,7 +10,7 @@ use Rattle.ig_deals.specs.declared.cfg.SessionCfg.{SessionCfg}
 use Rattle.ig_deals.specs.Hellos.{Greeting, greeting_of, hello_frame}
 use Rattle.ig_deals.specs.Asks.{Asked, asks}
 use Rattle.ig_deals.specs.Deals.{Got, Deal, calls, call_for}
-use Rattle.ig_deals.specs.Desk.{fresh_desk}
+use Rattle.ig_deals.specs.Desk.{Desk, fresh_desk}
 use Rattle.ig_deals.specs.Telling.{crew_manner}
 use Rattle.ig_deals.specs.Turns.{Terms}
 use Rattle.ig_deals.specs.OutFrames.{desk_after, reply_frames, terms_at}
@@ -109,20 +109,20 @@ out_ahead cfg (hello ∷ bodies) deals order = hello_frame cfg hello ∷ frames_
 
 -- ---- the phase
 
-pub record IsOpenAhead (terms : Terms) (s : State) (bodies : List (List ℕ)) (deals : List Deal) : Type 0 where
+pub record IsOpenAhead (terms : Terms) (cfg : SessionCfg) (desk : Desk) (bodies : List (List ℕ)) (deals : List Deal) : Type 0 where
   pub hello : List ℕ
   pub requests : List (List ℕ)
   pub bodies_are : bodies ≡ hello ∷ requests
   pub accepted : Hello
   pub greets : greeting_of hello ≡ Ok accepted
-  pub terms_are : terms ≡ terms_at s.cfg crew_manner accepted.version
-  pub desk_is : s.desk ≡ desk_after terms fresh_desk deals
+  pub terms_are : terms ≡ terms_at cfg crew_manner accepted.version
+  pub desk_is : desk ≡ desk_after terms fresh_desk deals
 
-abbrev pub IsInAhead : Phase → State → List (List ℕ) → List Deal → Type 0
-IsInAhead BeforeHello s bodies deals = (bodies ≡ []) × (s.desk ≡ fresh_desk)
-IsInAhead (Open terms) s bodies deals = IsOpenAhead (terms_of terms) s bodies deals
-IsInAhead (Refused fault) s bodies deals = IsRefused bodies fault
-IsInAhead OutOfMemory s bodies deals = Unit {0}
+abbrev pub IsInAhead : Phase → SessionCfg → Desk → List (List ℕ) → List Deal → Type 0
+IsInAhead BeforeHello cfg desk bodies deals = (bodies ≡ []) × (desk ≡ fresh_desk)
+IsInAhead (Open terms) cfg desk bodies deals = IsOpenAhead (terms_of terms) cfg desk bodies deals
+IsInAhead (Refused fault) cfg desk bodies deals = IsRefused bodies fault
+IsInAhead OutOfMemory cfg desk bodies deals = Unit {0}
 
 -- ---- the whole
 
@@ -137,7 +137,7 @@ pub record StandsAhead (s : State) (input : List ℕ) (ran : List HandedAhead) (
   pub handed_out : map (λ (r : HandedAhead). r.call) ran ≡ calls (asks bodies)
   pub out : s.out ≡ out_among 0 (dealt_ahead (asks bodies) (given_so_far ran))
   pub count : s.handed ≡ length ran
-  pub phase : IsInAhead s.phase s bodies (dealt_ahead (asks bodies) (given_so_far ran))
+  pub phase : IsInAhead s.phase s.cfg s.desk bodies (dealt_ahead (asks bodies) (given_so_far ran))
   pub order_is : IsOrder (dealt_ahead (asks bodies) (given_so_far ran)) order
   pub each : HasEach s.phase (dealt_ahead (asks bodies) (given_so_far ran)) order
   pub shows : output ++ bytes_left s.waiting ≡ joined (out_ahead s.cfg bodies (dealt_ahead (asks bodies) (given_so_far ran)) order)

@@ -6,6 +6,7 @@ use Rattle.ig_base.specs.Frames.{client}
 use Rattle.ig_wire.specs.declared.hello.Hello.{Hello}
 use Rattle.ig_frame.specs.Streams.{HandedOut}
 use Rattle.ig_caches.specs.declared.call.Call.{Call}
+use Rattle.ig_deals.specs.declared.cfg.SessionCfg.{SessionCfg}
 use Rattle.ig_deals.specs.Hellos.{greeting_of}
 use Rattle.ig_deals.specs.Asks.{Asked, asks}
 use Rattle.ig_deals.specs.Deals.{Ran, handed, gots, calls, call_for, dealt}
@@ -38,20 +39,21 @@ ShowsIn phase frames w output = ShowsSoFar frames w output
 -- ---- the phase
 
 -- the first body was accepted, the terms are those of its version, and the desk is that after all deals
-pub record IsOpenAt (terms : Terms) (s : State) (bodies : List (List ℕ)) (ran : List Ran) : Type 0 where
+pub record IsOpenAt (terms : Terms) (cfg : SessionCfg) (desk : Desk) (bodies : List (List ℕ)) (ran : List Ran) : Type 0 where
   pub hello : List ℕ
   pub requests : List (List ℕ)
   pub bodies_are : bodies ≡ hello ∷ requests
   pub accepted : Hello
   pub greets : greeting_of hello ≡ Ok accepted
-  pub terms_are : terms ≡ terms_at s.cfg session_manner accepted.version
-  pub desk_is : s.desk ≡ desk_after terms fresh_desk (dealt (asks bodies) (gots ran))
+  pub terms_are : terms ≡ terms_at cfg session_manner accepted.version
+  pub desk_is : desk ≡ desk_after terms fresh_desk (dealt (asks bodies) (gots ran))
 
-abbrev pub IsIn : Phase → State → List (List ℕ) → List Ran → Type 0
-IsIn BeforeHello s bodies ran = (bodies ≡ []) × (s.desk ≡ fresh_desk)
-IsIn (Open terms) s bodies ran = IsOpenAt (terms_of terms) s bodies ran
-IsIn (Refused fault) s bodies ran = IsRefused bodies fault
-IsIn OutOfMemory s bodies ran = s.out ≡ []
+-- what was read leads to this phase, where these calls are out
+abbrev pub IsIn : Phase → SessionCfg → Desk → List Awaited → List (List ℕ) → List Ran → Type 0
+IsIn BeforeHello cfg desk out bodies ran = (bodies ≡ []) × (desk ≡ fresh_desk)
+IsIn (Open terms) cfg desk out bodies ran = IsOpenAt (terms_of terms) cfg desk bodies ran
+IsIn (Refused fault) cfg desk out bodies ran = IsRefused bodies fault
+IsIn OutOfMemory cfg desk out bodies ran = out ≡ []
 
 -- ---- calls that are out
 
@@ -78,6 +80,6 @@ pub record Stands (s : State) (input : List ℕ) (ran : List Ran) (out : List Ca
   pub handed_out : handed ran ≡ calls settled
   pub awaited : AwaitFrom (length ran) s.out pending out
   pub count : s.handed ≡ length ran + length s.out
-  pub phase : IsIn s.phase s bodies ran
+  pub phase : IsIn s.phase s.cfg s.desk s.out bodies ran
   pub shows : ShowsIn s.phase (out_frames s.cfg session_manner bodies (gots ran)) s.waiting output
   pub one : length s.out + length s.waiting.frames ≤ 1

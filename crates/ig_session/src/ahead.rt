@@ -14,6 +14,7 @@ ghost use Rattle.ig_session.specs.StepsAhead.{waits_for_all, is_full, stop_or_wa
 
 use crate::awaited::{Awaited, Awaits};
 use crate::coming::Coming;
+use crate::phase::Phase;
 use crate::session::Session;
 use crate::step::Ahead;
 use ig_base::{NoMemory, NoRoom};

@@ -5,9 +5,10 @@ ghost use Rattle.std.specs.Prelude.{◌≡◌, ◌<◌, ◌≤◌, ◌+◌, [], 
 ghost use Rattle.ig_wire.specs.Limits.{most_session_bytes, piece_bytes};
 ghost use Rattle.ig_session.specs.Cfg.{IsCfg};
 ghost use Rattle.ig_session.specs.Comings.{IsPaused};
-ghost use Rattle.ig_session.specs.Serving.{TakesPiece, AnswersAll, SendsWaiting, RunsCall, GivesAnswer, Served};
+ghost use Rattle.ig_session.specs.Serving.{TakesPiece, AnswersAll, SendsWaiting, GivesAnswer, Served};
 ghost use Rattle.ig_caches.specs.IsRunnable.{IsRunnable};
-ghost use Rattle.ig_deals.specs.Deals.{Got as a_got};
+ghost use Rattle.ig_deals.specs.Deals.{Got as a_got, entry_of};
+ghost use Rattle.ig_session.specs.Histories.{StandsOn};
 
 use crate::caller::Caller;
 use crate::session::Session;
@@ -71,8 +72,8 @@ fn run_call<C: Caller>(
 ) -> Result<(), SessionEnd>
     requires out { length session.old.out ≡ 1 }
     requires runnable { IsRunnable call }
-    ensures runs { (got : a_got) × RunsCall C.stands (C.seat caller.old) caller.old caller.new call got
-        × GivesAnswer session.old session.new got result }
+    ensures runs { (got : a_got) × StandsOn C.stands caller.old caller.new
+        (entry_of (C.seat caller.old) call got) × GivesAnswer session.old session.new got result }
     ensures seat { C.seat caller.new ≡ C.seat caller.old }
     ensures lent { C.lent caller.new ≡ C.lent caller.old }
     ensures kept { C.kept caller.new ≡ C.kept caller.old }

@@ -237,7 +237,7 @@ fn a_long_reply_is_shown_in_pieces(rt: HostRuntime) -> Result<(), Fail> {
             Step::Stop(_) => break,
         }
     }
-    assert!(rt; replies.as_slice() == &[1, 128]);
+    assert!(rt; replies.as_slice() == &[1u8, 128][..]);
     assert_eq!(rt; session.held(), 0);
     Ok(())
 }

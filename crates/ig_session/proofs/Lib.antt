@@ -1,0 +1,10 @@
+pub mod HistoryLemmas
+pub mod ComingLemmas
+pub mod StandLemmas
+pub mod GreetLemmas
+pub mod AskLemmas
+pub mod KeptLemmas
+pub mod AnswerLemmas
+pub mod WriteLemmas
+pub mod StepLemmas
+pub mod EndLemmas
