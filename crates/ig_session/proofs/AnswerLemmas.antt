@@ -65,9 +65,9 @@ open_phase BeforeHello cfg desk out bodies ran settled asked a is all one = absu
 open_phase (Open terms) cfg desk out bodies ran settled asked a is all one = (terms, refl)
 open_phase (Refused fault) cfg desk out bodies ran settled asked a is all one =
     absurd (no_request settled asked (sym (ap (λ (g : Greeting). asks_after g []) is.2) ∙ sym (ap asks is.1) ∙ all)) where
-  no_request : (xs : List Asked) (x : Asked) → [] ≡ xs ++ x ∷ [] → ⊥
-  no_request [] x e = cc
-  no_request (y ∷ xs) x e = cc
+      no_request : (xs : List Asked) (x : Asked) → [] ≡ xs ++ x ∷ [] → ⊥
+      no_request [] x e = cc
+      no_request (y ∷ xs) x e = cc
 open_phase OutOfMemory cfg desk out bodies ran settled asked a is all one = absurd cc
 
 nth_same : (n : ℕ) → (n == n) ≡ true

@@ -106,9 +106,9 @@ pub all_shown : (frames : List (List ℕ)) (w : Waiting) (output : List ℕ) →
 all_shown frames w output none so =
     let whole : frames ≡ so.shown = so.frames_are ∙ ap (λ (l : List (List ℕ)). so.shown ++ l) none ∙ append-nil so.shown in
     so.output_is ∙ ap (λ (l : List (List ℕ)). joined so.shown ++ take w.gone (joined l)) none ∙ ap (λ (l : List ℕ). joined so.shown ++ l) (take_none w.gone) ∙ append-nil (joined so.shown) ∙ ap joined (sym whole) where
-  take_none : (n : ℕ) → take n [] ≡ []
-  take_none zero = refl
-  take_none (suc n) = refl
+      take_none : (n : ℕ) → take n [] ≡ []
+      take_none zero = refl
+      take_none (suc n) = refl
 
 -- frames of which at most the last waits may be cut off
 pub may_be_cut : (frames : List (List ℕ)) (w : Waiting) (output : List ℕ) → length w.frames ≤ 1 → ShowsSoFar frames w output → ShowsPart frames output

@@ -65,11 +65,7 @@ fn send_waiting<K: Sink>(session: &mut Session, sink: &mut K) -> Result<(), Sess
 }
 
 /// Runs a call, and gives the answer to the session.
-fn run_call<C: Caller>(
-    session: &mut Session,
-    caller: &mut C,
-    call: Call,
-) -> Result<(), SessionEnd>
+fn run_call<C: Caller>(session: &mut Session, caller: &mut C, call: Call) -> Result<(), SessionEnd>
     requires out { length session.old.out ≡ 1 }
     requires runnable { IsRunnable call }
     ensures runs { (got : a_got) × StandsOn C.stands caller.old caller.new

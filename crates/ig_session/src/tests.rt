@@ -111,7 +111,11 @@ fn write_out(session: &mut Session, step: usize, output: &mut Octets) -> Result<
 
 /// The bytes of a session over this input, which is fed in pieces of `step` bytes, and its end. `None`
 /// where it shows too much.
-fn output_of(alloc: Global, input: &[u8], step: usize) -> Result<Option<(Octets, SessionEnd)>, Fail> {
+fn output_of(
+    alloc: Global,
+    input: &[u8],
+    step: usize,
+) -> Result<Option<(Octets, SessionEnd)>, Fail> {
     let mut caches = caches(alloc)?;
     let mut session = Session::new(alloc, CFG)?;
     let mut output = Octets::empty(alloc);
@@ -142,8 +146,8 @@ fn output_of(alloc: Global, input: &[u8], step: usize) -> Result<Option<(Octets,
 /// What the session with a scan answers.
 const SCANNED: [u8; 86] = [
     1, 0, 0, 0, 1, 12, 0, 0, 0, 1, 0, 0, 0, 0, 0, 0, 0, 0, 0, 0, 0, 12, 0, 0, 0, 2, 0, 0, 0, 0, 0,
-    0, 0, 0, 0, 0, 0, 45, 0, 0, 0, 3, 0, 0, 0, 0, 0, 0, 0, 0, 0, 0, 0, 1, 0, 0, 0, 0, 0, 0, 0, 2, 0,
-    0, 0, 3, 1, 0, 0, 0, 3, 2, 0, 0, 0, 3, 3, 0, 0, 0, 3, 4, 0, 0, 0, 0,
+    0, 0, 0, 0, 0, 0, 45, 0, 0, 0, 3, 0, 0, 0, 0, 0, 0, 0, 0, 0, 0, 0, 1, 0, 0, 0, 0, 0, 0, 0, 2,
+    0, 0, 0, 3, 1, 0, 0, 0, 3, 2, 0, 0, 0, 3, 3, 0, 0, 0, 3, 4, 0, 0, 0, 0,
 ];
 
 #[test]
@@ -230,7 +234,11 @@ fn a_long_reply_is_shown_in_pieces(rt: HostRuntime) -> Result<(), Fail> {
                 if all.is_empty() {
                     break;
                 }
-                let count = if all.len() < 65_536 { all.len() } else { 65_536 };
+                let count = if all.len() < 65_536 {
+                    all.len()
+                } else {
+                    65_536
+                };
                 session.feed(&all[..count])?;
                 all = &all[count..];
             }
@@ -283,10 +291,15 @@ fn done(alloc: Global, nth: u64) -> Result<Answer, Fail> {
         });
     }
     let mut caches = caches(alloc)?;
-    Ok(caches.run(Call::Scan { cache: 3_343_801 }).ok().unwrap_or(Answer {
-        minor: 0,
-        outcome: Outcome::Done,
-    }))
+    Ok(
+        caches
+            .run(Call::Scan { cache: 3_343_801 })
+            .ok()
+            .unwrap_or(Answer {
+                minor: 0,
+                outcome: Outcome::Done,
+            }),
+    )
 }
 
 /// The first step that `ahead` answers otherwise, and what was written.
@@ -317,7 +330,9 @@ fn replies_stand_in_the_order_of_answers(rt: HostRuntime) -> Result<(), Fail> {
     assert_eq!(rt; wrong, None);
     // The identifiers of the replies to the puts, and of the page.
     assert_eq!(rt; output.len(), 5 + 16 + 16 + 29);
-    assert!(rt; output.as_slice()[9] == 2 && output.as_slice()[25] == 1 && output.as_slice()[41] == 3);
+    assert!(rt;
+        output.as_slice()[9] == 2 && output.as_slice()[25] == 1 && output.as_slice()[41] == 3
+    );
     Ok(())
 }
 

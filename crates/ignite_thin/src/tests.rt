@@ -747,7 +747,13 @@ fn due(alloc: Global, taken: usize) -> Result<(usize, bool), NoMemory> {
 }
 
 /// Whether a run over the first bytes of the session ended with this status after these replies.
-fn ends_so(alloc: Global, taken: &[u8], fails: bool, shown: &[u8], status: u8) -> Result<bool, Fail> {
+fn ends_so(
+    alloc: Global,
+    taken: &[u8],
+    fails: bool,
+    shown: &[u8],
+    status: u8,
+) -> Result<bool, Fail> {
     let run = run_over(alloc, &["pipe", "main"], taken, fails, Vec::new(alloc))?;
     Ok(run.status == status && run.sink.written() == Some(shown))
 }

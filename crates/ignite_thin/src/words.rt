@@ -37,7 +37,9 @@ pub fn pipe_words(words: &[String]) -> Option<&[String]>
         ≡ pipe_names (map string_bytes words.now) }
 {
     match words {
-        [command, names @ ..] if command.as_str() == "pipe" && are_cache_names(names) => Some(names),
+        [command, names @ ..] if command.as_str() == "pipe" && are_cache_names(names) => Some(
+            names,
+        ),
         _ => None,
     }
 }
