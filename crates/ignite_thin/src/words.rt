@@ -36,10 +36,14 @@ pub fn pipe_words(words: &[String]) -> Option<&[String]>
     ensures { option_map (λ names. map string_bytes names.now) result
         ≡ pipe_names (map string_bytes words.now) }
 {
-    match words {
-        [command, names @ ..] if command.as_str() == "pipe" && are_cache_names(names) => Some(
-            names,
-        ),
-        _ => None,
+    let [command, names @ ..] = words else {
+        return None;
+    };
+    if command.as_str() != "pipe" {
+        return None;
     }
+    if !are_cache_names(names) {
+        return None;
+    }
+    Some(names)
 }
