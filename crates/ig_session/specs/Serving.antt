@@ -2,7 +2,6 @@
 use Rattle.std.specs.Prelude.{◌≡◌, ℕ, ◌<◌, ◌≤◌, true, false, List, [], ◌++◌, length, Some, Result, Ok, Err}
 use Rattle.ig_base.specs.declared.entry.Entry.{Entry}
 use Rattle.ig_link.specs.States.{SourceState, SinkState, Rose, SourceAdvances, SinkAdvances}
-use Rattle.ig_link.specs.WritesAs.{SentPart}
 use Rattle.ig_wire.specs.Limits.{most_session_bytes}
 use Rattle.ig_caches.specs.declared.call.Call.{Call}
 use Rattle.ig_caches.specs.declared.answer.Answer.{Answer}
@@ -13,11 +12,11 @@ use Rattle.ig_deals.specs.declared.end.SessionEnd.TheVariants as ends
 use Rattle.ig_deals.specs.Deals.{Got, Ran, entry_of, entries_of}
 use Rattle.ig_deals.specs.Telling.{session_manner}
 use Rattle.ig_deals.specs.Serves.{Runs, Serves}
-use Rattle.ig_replies.specs.Showing.{piece_shown}
+use Rattle.ig_replies.specs.Showing.{waiting_none, bytes_left}
 use Rattle.ig_session.specs.Histories.{StandsOn}
 use Rattle.ig_session.specs.States.{State}
 use Rattle.ig_session.specs.Comings.{IsPaused}
-use Rattle.ig_session.specs.Steps.{written, answered, IsSpent}
+use Rattle.ig_session.specs.Steps.{answered, IsSpent}
 use Rattle.ig_session.specs.StandsFor.{Stands}
 
 -- a source that has ended without a failed read, with nothing left where its reads hold
@@ -68,13 +67,21 @@ abbrev pub HasAnswered : {A : Type 0} → Result A SessionEnd → SinkState → 
 HasAnswered (Ok done) old new = new.faults ≡ old.faults
 HasAnswered (Err end) old new = EndsAnswering end old new
 
--- what was shown of the session's replies was written, or a part of it and then a write failed
+-- the first of these bytes were written, and then a write failed
+pub record SentFirst (bytes : List ℕ) (sink sink' : SinkState) : Type 0 where
+  pub prefix : List ℕ
+  pub missing : List ℕ
+  pub cut : bytes ≡ prefix ++ missing
+  pub gets : SinkAdvances sink sink' prefix
+  pub fault : WriteHasFailed sink sink'
+
+-- all that waited was written, or the first bytes of it
 abbrev pub SendsWaiting : {A : Type 0} → State → State → SinkState → SinkState → Result A SessionEnd → Type 0
 SendsWaiting old new sink sink' (Ok done) =
-    SinkAdvances sink sink' (piece_shown old.waiting) × (sink'.faults ≡ sink.faults)
-    × (new ≡ written old (length (piece_shown old.waiting)))
+    SinkAdvances sink sink' (bytes_left old.waiting) × (sink'.faults ≡ sink.faults)
+    × (new ≡ record old { waiting = waiting_none })
 SendsWaiting old new sink sink' (Err end) =
-    (end ≡ ends.WriteFault) × (new ≡ old) × ((sent : ℕ) × SentPart sent sink sink' (piece_shown old.waiting))
+    (end ≡ ends.WriteFault) × (new.cfg ≡ old.cfg) × SentFirst (bytes_left old.waiting) sink sink'
 
 -- a call was run, and its answer given to the session
 abbrev pub GivesAnswer : {A : Type 0} → State → State → Got → Result A SessionEnd → Type 0

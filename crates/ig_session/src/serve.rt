@@ -50,17 +50,19 @@ fn take_piece<S: Source>(
     }
 }
 
-/// Writes what the session shows.
+/// Writes all that waits.
 fn send_waiting<K: Sink>(session: &mut Session, sink: &mut K) -> Result<(), SessionEnd>
     ensures sends { SendsWaiting session.old session.new (K.sink sink.old) (K.sink sink.new) result }
     ensures beside { K.source_beside sink.new ≡ K.source_beside sink.old }
 {
-    let waiting = session.waiting();
-    let count = waiting.len();
-    if send_all(sink, waiting).is_err() {
-        return Err(SessionEnd::WriteFault);
+    while !session.waiting().is_empty() {
+        let waiting = session.waiting();
+        let count = waiting.len();
+        if send_all(sink, waiting).is_err() {
+            return Err(SessionEnd::WriteFault);
+        }
+        session.gone(count);
     }
-    session.gone(count);
     Ok(())
 }
 
