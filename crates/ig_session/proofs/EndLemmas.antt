@@ -33,6 +33,11 @@ use Rattle.ig_session.proofs.StandLemmas.{all_shown}
 use Rattle.ig_session.proofs.AskLemmas.{nothing_pending}
 use Rattle.ig_session.proofs.StepLemmas.{cut_in}
 
+-- where no call is out, all that are asked for were handed out
+pub all_handed : (s : State) (input : List ℕ) (ran : List Ran) (output : List ℕ) → (stood : Stands s input ran [] output) → handed ran ≡ calls (asks stood.bodies)
+all_handed s input ran output stood = stood.handed_out ∙ ap calls (sym (append-nil stood.settled)
+    ∙ ap (λ (l : List Asked). stood.settled ++ l) (sym (nothing_pending (length ran) s.out stood.pending stood.awaited).1) ∙ sym stood.asked)
+
 runs_to : (s : State) (input : List ℕ) (ran : List Ran) (output : List ℕ) (end : SessionEnd) → length input ≤ most_session_bytes → (stood : Stands s input ran [] output)
     → EndsBy end input stood.bodies s.stream.rest → Shows end (out_frames s.cfg session_manner stood.bodies (gots ran)) output → Runs s.cfg session_manner input output ran end
 runs_to s input ran output end within stood by shows = record {
@@ -41,7 +46,7 @@ runs_to s input ran output end within stood by shows = record {
   within = within;
   begins = stood.read.begins;
   ends_by = by;
-  handed_out = stood.handed_out ∙ ap calls (sym (append-nil stood.settled) ∙ ap (λ (l : List Asked). stood.settled ++ l) (sym (nothing_pending (length ran) s.out stood.pending stood.awaited).1) ∙ sym stood.asked);
+  handed_out = all_handed s input ran output stood;
   shows = shows;
 }
 

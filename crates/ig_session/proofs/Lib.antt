@@ -8,3 +8,6 @@ pub mod AnswerLemmas
 pub mod WriteLemmas
 pub mod StepLemmas
 pub mod EndLemmas
+pub mod TakeLemmas
+pub mod SinceLemmas
+pub mod LoopLemmas

@@ -5,7 +5,6 @@ pub mod States
 pub mod Soundness
 pub mod Comings
 pub mod Requests
-pub mod SessionView
 pub mod Steps
 pub mod StepsAhead
 pub mod StandsFor

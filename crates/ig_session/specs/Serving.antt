@@ -184,3 +184,4 @@ pub record Going {C : Type 0} (stands : C → PlainCaches → List (Entry Call A
   pub no_write_fault : sink'.faults ≡ sink.faults
   pub stands_for : Stands state input ran [] output
   pub paused : IsPaused state
+  pub none_out : state.out ≡ []

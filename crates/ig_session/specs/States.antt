@@ -23,6 +23,18 @@ pub record State : Type 0 where
   -- the frames that are to be written, and how many bytes of the first are gone
   pub waiting : Waiting
 
+-- the state with these parts
+abbrev pub state_of : SessionCfg → Stream → Phase → Desk → List Awaited → ℕ → Waiting → State
+state_of cfg stream phase desk out handed waiting = record {
+  cfg = cfg;
+  stream = stream;
+  phase = phase;
+  desk = desk;
+  out = out;
+  handed = handed;
+  waiting = waiting;
+}
+
 -- a session that was fed nothing
 abbrev pub new_state : SessionCfg → State
 new_state cfg = record {

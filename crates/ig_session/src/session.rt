@@ -38,15 +38,19 @@ pub struct Session {
 }
 
 impl Model for Session {
-    ghost use Rattle.ig_session.specs.States.{State};
-    ghost use Rattle.ig_session.specs.SessionView.{state_of};
+    ghost use Rattle.std.specs.Coded.{codes};
+    ghost use Rattle.ig_deals.specs.contracts.desk.Desk as desk;
+    ghost use Rattle.ig_session.specs.States.{State, state_of};
     ghost use Rattle.ig_session.specs.Soundness.{IsSound};
 
     ghost Value = { State };
 
-    ghost view = { state_of };
+    ghost coded = { Prim.hlevel (codes, desk.the_row.coded) };
 
-    ghost invariant = { λ s. IsSound (state_of s) };
+    ghost view = { λ s. state_of s.cfg s.frames s.phase s.desk s.out.items s.handed s.outbox };
+
+    ghost invariant = { λ s. IsSound (state_of s.cfg s.frames s.phase s.desk s.out.items s.handed
+        s.outbox) };
 }
 
 impl Session {
