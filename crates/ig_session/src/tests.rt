@@ -163,6 +163,27 @@ fn pieces_of_any_length_give_the_same_output(rt: HostRuntime) -> Result<(), Fail
     Ok(())
 }
 
+/// A link that gives the second half of its input only after the replies to the first half were written.
+fn waiting_link(alloc: Global) -> Result<MemLink, Fail> {
+    let mut reads = Vec::new(alloc);
+    let first = Vec::from_slice(alloc, &TWO_PUTS_AND_SCAN[..41])?;
+    reads.push(ReadStep::Bytes(Octets::new(first)))?;
+    reads.push(ReadStep::AfterWritten(21))?;
+    let second = Vec::from_slice(alloc, &TWO_PUTS_AND_SCAN[41..])?;
+    reads.push(ReadStep::Bytes(Octets::new(second)))?;
+    Ok(MemLink::new(alloc, reads, Vec::new(alloc), 1 << 10)?)
+}
+
+#[test]
+fn whole_frames_are_answered_before_the_next_read(rt: HostRuntime) -> Result<(), Fail> {
+    let mut link = waiting_link(rt.alloc())?;
+    let mut caller = Alone::new(caches(rt.alloc())?);
+    let end = serve_link(rt.alloc(), &mut caller, &mut link, &CFG);
+    assert_eq!(rt; end, SessionEnd::Ended);
+    assert!(rt; link.written() == Some(SCANNED.as_slice()));
+    Ok(())
+}
+
 /// After a refused hello nothing is read, whatever follows it.
 #[test]
 fn nothing_is_asked_after_a_refused_hello(rt: HostRuntime) -> Result<(), Fail> {
