@@ -11,3 +11,4 @@ pub mod EndLemmas
 pub mod TakeLemmas
 pub mod SinceLemmas
 pub mod LoopLemmas
+pub mod SoundLemmas

@@ -30,6 +30,10 @@ IsSoundPhase OutOfMemory cfg out = Unit {0}
 abbrev pub IsNumbered : ℕ → Awaited → Type 0
 IsNumbered handed awaited = awaited.nth < handed
 
+-- a frame has some bytes
+abbrev pub HasBytes : List ℕ → Type 0
+HasBytes frame = 0 < length frame
+
 -- Each request has bytes, so there are fewer cursors and calls than bytes that were read.
 pub record IsSound (s : State) : Type 0 where
   pub cfg : IsCfg s.cfg
@@ -40,4 +44,5 @@ pub record IsSound (s : State) : Type 0 where
   pub cursors : s.desk.next + length s.out ≤ s.stream.place + 1
   pub calls : s.handed ≤ s.stream.place
   pub numbered : AllByRecursion (IsNumbered s.handed) s.out
+  pub frames : AllByRecursion HasBytes s.waiting.frames
   pub begun : IsBegun s.waiting.frames s.waiting.gone
