@@ -16,7 +16,7 @@ pub struct OpenCursor {
 }
 
 impl Model for OpenCursor {
-    ghost use Rattle.std.specs.List.{reverse};
+    ghost use Rattle.std.specs.Prelude.{reverse};
     ghost use Rattle.std.specs.Coded.{codes};
     ghost use Rattle.ig_value.specs.contracts.value.Value as value;
     ghost use Rattle.ig_deals.specs.Desk.{Cursor};

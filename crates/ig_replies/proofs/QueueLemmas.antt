@@ -1,6 +1,6 @@
 -- Queues of frames, and the pieces that are shown of them.
 use Rattle.std.proofs.Common.{◌≡◌, refl, ℕ, ◌+◌, ◌-◌, ◌<◌, ◌≤◌, List, [], ◌∷◌, ◌++◌, map, length, take, drop, sym, ap, subst, ◌∙◌, arith}
-use Rattle.std.specs.Prelude.{◌%◌, min, nat_lt, Option, None, Some, if◌then◌else◌}
+use Rattle.std.specs.Prelude.{◌%◌, ◌↔◌, min, nat_lt, Bool, false, true, IsTrue, is_none, Option, None, Some, if◌then◌else◌}
 use Rattle.std.specs.List.{AllByRecursion}
 use Rattle.std.proofs.lemmas.Bool.{le-ltb, lt-ltb, cond-true, cond-false}
 use Rattle.std.proofs.lemmas.List.{length-take, length-drop, map-append}
@@ -118,19 +118,19 @@ next_waiting s later some =
 -- ---- the next frame
 
 fresh_is_spent : (s : Showing) → IsFresh s → IsSpent s
-fresh_is_spent s fresh = record { whole = omega (arith, fresh.0); even = λ lt. omega (arith, fresh.0) }
+fresh_is_spent s fresh = record { whole = omega (arith, fresh); even = λ lt. omega (arith, fresh) }
 
-fresh_has_some : (s : Showing) → IsFresh s → 0 < length (taken_from s)
-fresh_has_some s fresh = omega (arith, taken_length s, fresh.0, fresh.1)
+fresh_has_some : (s : Showing) → IsFresh s → 0 < length s.frame → 0 < length (taken_from s)
+fresh_has_some s fresh some = omega (arith, taken_length s, fresh, some)
 
-pub first_queue : (s : Showing) (later : List Showing) → IsFresh s → AllByRecursion IsFresh later
+pub first_queue : (s : Showing) (later : List Showing) → IsFresh s → 0 < length s.frame → AllByRecursion IsFresh later
     → IsQueue (Some (after_taking s)) (taken_from s) later
-first_queue s later fresh rest_fresh = (taken_piece s (fresh_is_spent s fresh) (fresh_has_some s fresh), rest_fresh)
+first_queue s later fresh some rest_fresh = (taken_piece s (fresh_is_spent s fresh) (fresh_has_some s fresh some), rest_fresh)
 
 pub first_waiting : (s : Showing) (later : List Showing) → IsFresh s
     → waiting_in (Some (after_taking s)) (taken_from s) later ≡ record { frames = s.frame ∷ frames_of later; gone = 0 }
 first_waiting s later fresh =
-    let at : s.gone + length (taken_from s) - length (taken_from s) ≡ 0 = omega (arith, fresh.0) in
+    let at : s.gone + length (taken_from s) - length (taken_from s) ≡ 0 = omega (arith, fresh) in
     ap (λ (g : ℕ). record { frames = s.frame ∷ frames_of later; gone = g }) at
 
 -- what is waited for when the first frame is gone
@@ -161,6 +161,21 @@ pub shown_is_left : (first : Option Showing) (piece : List ℕ) (later : List Sh
     → piece ≡ piece_shown (waiting_in first piece later)
 shown_is_left None piece later is = is.0
 shown_is_left (Some s) piece later is = is.0.next
+
+-- nothing is left of the piece exactly where no frame waits
+pub none_left : (first : Option Showing) (piece : List ℕ) (later : List Showing) → IsQueue first piece later
+    → (piece ≡ []) ↔ ((waiting_in first piece later).frames ≡ [])
+none_left None piece later is = (λ e. refl, λ e. is.0)
+none_left (Some s) piece later is =
+    (λ e. absurd (omega (arith, is.0.some, ap length e)), λ e. absurd (omega (arith, ap length e)))
+
+-- none waits exactly where there is no first one
+pub none_waits : (first : Option Showing) (piece : List ℕ) (later : List Showing) (b : Bool) → b ≡ is_none first
+    → IsTrue b ↔ ((waiting_in first piece later).frames ≡ [])
+none_waits None piece later b is = (λ e. refl, λ e. is)
+none_waits (Some s) piece later b is = (λ e. absurd (clash (sym is ∙ e)), λ e. absurd (omega (arith, ap length e))) where
+  clash : false ≡ true → ⊥
+  clash h = cc
 
 -- a list of no bytes
 pub no_bytes : (xs : List ℕ) → length xs ≡ 0 → xs ≡ []

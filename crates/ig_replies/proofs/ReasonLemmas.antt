@@ -1,6 +1,6 @@
 -- Heads of replies that tell the reason of a fault.
 use Rattle.std.proofs.Common.{◌≡◌, ◌<◌, ℤ, pos, List, ℕ, length, refl, ap, arith}
-use Rattle.std.specs.Prelude.{◌≢◌, nat_abs}
+use Rattle.std.specs.Prelude.{◌≢◌, ◌^◌, nat_abs}
 use Rattle.ig_wire.specs.declared.ask.Profile.{Profile}
 use Rattle.ig_wire.specs.declared.ask.Profile.TheVariants as profile
 use Rattle.ig_wire.specs.declared.reason.Reason.{Reason}
@@ -52,3 +52,7 @@ text_is_short reason.NoMemory = short 9 (reason_text reason.NoMemory) refl (omeg
 text_is_short reason.TooManyCursors = short 16 (reason_text reason.TooManyCursors) refl (omega arith)
 text_is_short reason.NoResource = short 23 (reason_text reason.NoResource) refl (omega arith)
 text_is_short reason.ReplyTooLong = short 14 (reason_text reason.ReplyTooLong) refl (omega arith)
+
+-- an Int32 counts the bytes of the text
+pub reason_short : (r : Reason) → length (reason_text r) < 2 ^ 31
+reason_short r = omega (arith, text_is_short r)

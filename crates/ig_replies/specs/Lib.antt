@@ -1,4 +1,5 @@
 pub mod Contents
+pub mod Results
 pub mod FrameParts
 pub mod Showing
 pub mod Queues

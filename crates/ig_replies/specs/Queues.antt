@@ -13,9 +13,9 @@ abbrev pub waiting_in : Option Showing → List ℕ → List Showing → Waiting
 waiting_in None piece later = waiting_none
 waiting_in (Some s) piece later = record { frames = s.frame ∷ frames_of later; gone = s.gone - length piece }
 
--- nothing of the frame is gone, and it has some bytes
+-- nothing of the frame is gone
 abbrev pub IsFresh : Showing → Type 0
-IsFresh s = (s.gone ≡ 0) × (0 < length s.frame)
+IsFresh s = s.gone ≡ 0
 
 -- some bytes are left of the piece that was taken last from the frame
 pub record IsPieceOf (s : Showing) (piece : List ℕ) : Type 0 where

@@ -19,9 +19,14 @@ pub record Waiting : Type 0 where
 abbrev pub waiting_none : Waiting
 waiting_none = record { frames = []; gone = 0 }
 
+-- what is left of the first frame, and the frames after it
+abbrev pub left_of : List (List ℕ) → ℕ → List ℕ
+left_of [] gone = []
+left_of (frame ∷ frames) gone = drop gone frame ++ joined frames
+
 -- the bytes that are still to be shown
 abbrev pub bytes_left : Waiting → List ℕ
-bytes_left w = drop w.gone (joined w.frames)
+bytes_left w = left_of w.frames w.gone
 
 -- the piece that is shown: of the first frame
 abbrev pub piece_of : List (List ℕ) → ℕ → List ℕ
@@ -42,6 +47,10 @@ frames_when (frame ∷ frames) gone =
 abbrev pub after_gone : Waiting → ℕ → Waiting
 after_gone w n = frames_when w.frames (w.gone + n)
 
--- a frame waits after the others
+-- a frame waits after the others; nothing of it is gone
+abbrev pub frames_and : List (List ℕ) → ℕ → List ℕ → Waiting
+frames_and [] gone frame = record { frames = frame ∷ []; gone = 0 }
+frames_and (first ∷ frames) gone frame = record { frames = first ∷ (frames ++ frame ∷ []); gone = gone }
+
 abbrev pub after_push : Waiting → List ℕ → Waiting
-after_push w frame = record { frames = w.frames ++ frame ∷ []; gone = w.gone }
+after_push w frame = frames_and w.frames w.gone frame

@@ -27,7 +27,7 @@ impl Model for Piece {
 }
 
 impl Piece {
-    ghost use Rattle.std.specs.Prelude.{◌≡◌, ◌+◌, ◌≤◌, [], take, drop, length, IfOk};
+    ghost use Rattle.std.specs.Prelude.{◌≡◌, ◌+◌, ◌<◌, ◌≤◌, [], take, drop, length, IfOk};
     ghost use Rattle.ig_wire.specs.Limits.{piece_bytes};
 
     /// An empty piece. It takes the room for every piece.
@@ -60,6 +60,7 @@ impl Piece {
 
     /// Takes the next bytes of the frame, in place of what was left. Takes no memory.
     pub(crate) fn refill(&mut self, frame: &mut ReplyFrame)
+        ensures some { 0 < length frame.old.frame }
         ensures piece { self.new ≡ take piece_bytes (drop frame.old.gone frame.old.frame) }
         ensures moved { frame.new ≡ record frame.old { gone = frame.old.gone + length self.new } }
     {

@@ -1,7 +1,9 @@
 //! The queue of replies.
 
-ghost use Rattle.std.specs.Prelude.{◌≡◌, []};
-ghost use Rattle.ig_replies.specs.Queues.{IsQueue, IsSpentQueue, waiting_in, waiting_spent};
+ghost use Rattle.std.specs.Prelude.{◌≡◌, List, [], ◌∷◌};
+ghost use Rattle.std.specs.List.{AllByRecursion};
+ghost use Rattle.ig_replies.specs.Showing.{Showing};
+ghost use Rattle.ig_replies.specs.Queues.{IsFresh, IsQueue, IsSpentQueue, frames_of, waiting_in, waiting_spent};
 
 use crate::piece::Piece;
 use crate::reply_frame::ReplyFrame;
@@ -36,7 +38,7 @@ impl Model for Queue {
 }
 
 impl Queue {
-    ghost use Rattle.std.specs.Prelude.{◌≡◌, ◌≢◌, ◌≤◌, [], length, IfOk, OnOk, OnErr, IsTrue, ◌↔◌};
+    ghost use Rattle.std.specs.Prelude.{◌≡◌, ◌≤◌, [], length, IfOk, OnOk, OnErr, IsTrue, ◌↔◌};
     ghost use Rattle.ig_replies.specs.Showing.{waiting_none, piece_shown, after_gone, after_push, showing};
 
     /// An empty queue. It takes the room for the pieces.
@@ -59,16 +61,16 @@ impl Queue {
 
     /// What is to be written next: up to 65,536 bytes of the first frame; nothing where no reply waits.
     pub fn waiting(&self) -> &[u8]
-        ensures { result.now ≡ piece_shown self.now }
+        ensures shown { result.now ≡ piece_shown self.now }
+        ensures end { (result.now ≡ []) ↔ (self.now.frames ≡ []) }
     {
         self.piece.left()
     }
 
-    /// Adds a reply after the others. Where it comes first it takes no memory. On an error the queue is
-    /// as before.
+    /// Adds a reply of which nothing is gone after the others. Where it comes first it takes no memory. On
+    /// an error the queue is as before.
     pub fn push(&mut self, frame: ReplyFrame) -> Result<(), NoMemory>
-        requires fresh { frame ≡ showing frame.frame }
-        requires some { frame.frame ≢ [] }
+        requires { frame ≡ showing frame.frame }
         ensures ok { OnOk result (self.new ≡ after_push self.old frame.frame) }
         ensures err { OnErr result (self.new ≡ self.old) }
     {
@@ -76,9 +78,7 @@ impl Queue {
             self.later.push_back(frame)?;
             return Ok(());
         }
-        let mut frame = frame;
-        self.piece.refill(&mut frame);
-        self.first = Some(frame);
+        begin(&mut self.first, &mut self.piece, frame);
         Ok(())
     }
 
@@ -111,8 +111,21 @@ fn go_on(first: &mut Option<ReplyFrame>, piece: &mut Piece, later: &mut VecDeque
     if !piece.left().is_empty() {
         return;
     }
-    *first = later.pop_front();
-    if let Some(frame) = first {
-        piece.refill(frame);
+    match later.pop_front() {
+        Some(next) => begin(first, piece, next),
+        None => *first = None,
     }
+}
+
+/// Begins to show a frame of which nothing is gone, in place of the one before.
+fn begin(first: &mut Option<ReplyFrame>, piece: &mut Piece, frame: ReplyFrame)
+    requires { IsFresh frame }
+    ensures queue { (later : List Showing) → AllByRecursion IsFresh later
+        → IsQueue first.new piece.new later }
+    ensures waiting { (later : List Showing) → waiting_in first.new piece.new later
+        ≡ record { frames = frame.frame ∷ frames_of later; gone = 0 } }
+{
+    let mut frame = frame;
+    piece.refill(&mut frame);
+    *first = Some(frame);
 }

@@ -38,7 +38,7 @@ impl Model for ReplyFrame {
 }
 
 impl ReplyFrame {
-    ghost use Rattle.std.specs.Prelude.{◌≡◌, ◌≤◌, ◌+◌, ◌-◌, ◌++◌, min, length, take, drop};
+    ghost use Rattle.std.specs.Prelude.{◌≡◌, ◌<◌, ◌≤◌, ◌+◌, ◌-◌, ◌++◌, min, length, take, drop};
     ghost use Rattle.ig_base.specs.Frames.{max_body};
     ghost use Rattle.ig_deals.specs.Replies.{reply_body, reply_frame, fits, shortened};
     ghost use Rattle.ig_replies.specs.Contents.{reply_said, MayBeShown};
@@ -101,9 +101,11 @@ impl ReplyFrame {
         self.gone
     }
 
-    /// Fills the slice with the next bytes of the frame; they are gone then. Answers how many bytes it
-    /// filled: the slice's length, or what is left of the frame, whichever is less. Takes no memory.
+    /// Fills the slice with the next bytes of the frame, which always has some; they are gone then. Answers
+    /// how many bytes it filled: the slice's length, or what is left of the frame, whichever is less. Takes
+    /// no memory.
     pub fn fill(&mut self, into: &mut [u8]) -> usize
+        ensures some { 0 < length self.old.frame }
         ensures count { result ≡ min (length into.old) (length self.old.frame - self.old.gone) }
         ensures bytes { into.new
             ≡ take result (drop self.old.gone self.old.frame) ++ drop result into.old }

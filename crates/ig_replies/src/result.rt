@@ -3,6 +3,7 @@
 ghost use Rattle.std.specs.Prelude.{◌≡◌, ◌-◌, ◌^◌, ◌++◌, min, length, take, drop};
 ghost use Rattle.ig_deals.specs.Tables.{shown_bytes};
 ghost use Rattle.ig_replies.specs.Contents.{content_bytes};
+ghost use Rattle.ig_replies.specs.Results.{is_meta, is_meta_outcome};
 
 use crate::reply::Content;
 use ig_caches::{Outcome, Shown};
@@ -25,12 +26,10 @@ pub(crate) fn content_len(content: &Content) -> u128
 fn shown_len(shown: &Shown) -> u128
     ensures { result ≡ min (length (shown_bytes shown.now)) (2 ^ 128 - 1) }
 {
-    match shown {
-        Shown::Out(Outcome::Names(_)) => ig_meta::result_len(shown),
-        Shown::Out(Outcome::Name(_)) => ig_meta::result_len(shown),
-        Shown::Out(Outcome::Meta(_)) => ig_meta::result_len(shown),
-        _ => message_len(&ShownBody { shown }),
+    if is_meta(shown) {
+        return ig_meta::result_len(shown);
     }
+    message_len(&ShownBody { shown })
 }
 
 /// Fills the slice with the bytes of the result from an offset on. Answers how many bytes it filled:
@@ -52,10 +51,30 @@ fn shown_part(shown: &Shown, from: u64, into: &mut [u8]) -> usize
     ensures count { result ≡ min (length into.old) (length (shown_bytes shown.now) - from) }
     ensures bytes { into.new ≡ take result (drop from (shown_bytes shown.now)) ++ drop result into.old }
 {
+    if is_meta(shown) {
+        return ig_meta::result_part(shown, from, into);
+    }
+    message_part(&ShownBody { shown }, from, into)
+}
+
+/// Whether a result is the names of caches, the name of a type or its description.
+fn is_meta(shown: &Shown) -> bool
+    ensures { result ≡ is_meta shown.now }
+{
     match shown {
-        Shown::Out(Outcome::Names(_)) => ig_meta::result_part(shown, from, into),
-        Shown::Out(Outcome::Name(_)) => ig_meta::result_part(shown, from, into),
-        Shown::Out(Outcome::Meta(_)) => ig_meta::result_part(shown, from, into),
-        _ => message_part(&ShownBody { shown }, from, into),
+        Shown::Out(outcome) => is_meta_outcome(outcome),
+        Shown::Page(_) => false,
+    }
+}
+
+/// The same of the outcome of a call.
+fn is_meta_outcome(outcome: &Outcome) -> bool
+    ensures { result ≡ is_meta_outcome outcome.now }
+{
+    match outcome {
+        Outcome::Names(_) => true,
+        Outcome::Name(_) => true,
+        Outcome::Meta(_) => true,
+        _ => false,
     }
 }

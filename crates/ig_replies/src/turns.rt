@@ -4,9 +4,9 @@ ghost use Rattle.std.specs.Prelude.{◌≡◌, ◌<◌, ◌&&◌, pos, [], ◌�
 ghost use Rattle.ig_caches.specs.declared.request.Request.TheVariants.{Run, Scan, NextPage, Close};
 ghost use Rattle.ig_deals.specs.Deals.{Had};
 ghost use Rattle.ig_deals.specs.Faults.{refusal_of};
-ghost use Rattle.ig_deals.specs.Desk.{Desk as a_desk, cursor_at};
+ghost use Rattle.ig_deals.specs.Desk.{Desk as a_desk, has_more, cursor_at, without};
 ghost use Rattle.ig_deals.specs.Replies.{fault_in, reply_frame, fits, shortened};
-ghost use Rattle.ig_deals.specs.Turns.{untold, answers, no_memory, scanned, turn_for, request_turn};
+ghost use Rattle.ig_deals.specs.Turns.{untold, telling, answers, no_memory, page_content, first_page, scanned, turn_for, request_turn};
 ghost use Rattle.ig_wire.specs.Heads.{HasShortText};
 ghost use Rattle.ig_wire.specs.Limits.{most_cursors};
 ghost use Rattle.ig_replies.specs.Contents.{content_said, reply_said, MayBeShown};
@@ -150,12 +150,38 @@ fn first_page(
         (scanned (terms_of terms.now) desk.old id minor cursor) frame desk.new) }
     ensures err { OnErr result (desk.new ≡ desk.old) }
 {
-    let mut cursor = cursor;
-    let more = cursor.has_more();
-    if more && desk.is_full() {
+    if !cursor.has_more() {
+        return show_first(terms, desk, id, minor, cursor, false);
+    }
+    if desk.is_full() {
+        drop(cursor);
         let content = Content::Refuses(Reason::TooManyCursors);
         return Ok(tell(terms, desk, id, minor, content));
     }
+    show_first(terms, desk, id, minor, cursor, true)
+}
+
+/// The same where a cursor may be open for the rows after the page, which `more` says whether there are.
+fn show_first(
+    terms: &Terms,
+    desk: &mut Desk,
+    id: i64,
+    minor: i32,
+    cursor: OpenCursor,
+    more: bool,
+) -> Result<ReplyFrame, NoMemory>
+    requires right { AreTerms terms.now }
+    requires numbers { HasNumbers desk.old }
+    requires next { cursor.number ≡ desk.old.next }
+    requires left { more ≡ has_more cursor }
+    requires room { IsTrue more → length desk.old.cursors < most_cursors }
+    ensures ok { IfOk result (λ frame. IsTurned (terms_of terms.now)
+        (first_page (terms_of terms.now) desk.old minor cursor
+            (telling (terms_of terms.now) desk.old id minor (page_content (Some (pos cursor.number)) cursor)))
+        frame desk.new) }
+    ensures err { OnErr result (desk.new ≡ desk.old) }
+{
+    let mut cursor = cursor;
     let number = cursor.number() as i64;
     let rows = cursor.take_page()?;
     let told = desk.tell(terms.manner, minor);
@@ -189,9 +215,15 @@ fn show_page(
     } }
 {
     let (frame, fits) = ReplyFrame::new(terms.version, page);
-    if more && fits {
-        desk.open(cursor);
+    if !more {
+        drop(cursor);
+        return frame;
     }
+    if !fits {
+        drop(cursor);
+        return frame;
+    }
+    desk.open(cursor);
     frame
 }
 
@@ -208,8 +240,10 @@ pub fn next_page(
     number: i64,
 ) -> Result<ReplyFrame, NoMemory>
     requires { HasNumbers desk.old }
-    ensures { IfOk result (λ frame. IsTurned (terms_of terms.now)
+    ensures ok { IfOk result (λ frame. IsTurned (terms_of terms.now)
         (request_turn (terms_of terms.now) desk.old id (NextPage number) None) frame desk.new) }
+    ensures err { OnErr result (desk.new
+        ≡ record desk.old { cursors = without desk.old.cursors number }) }
 {
     let Some(mut cursor) = desk.take(number) else {
         return Ok(say(terms, id, Content::Refuses(Reason::NoResource)));
