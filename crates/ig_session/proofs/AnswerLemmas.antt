@@ -25,8 +25,6 @@ use Rattle.ig_session.specs.declared.phase.Phase.{Phase}
 use Rattle.ig_session.specs.declared.phase.Phase.TheVariants.{BeforeHello, Open, Refused, OutOfMemory}
 use Rattle.ig_session.specs.declared.awaited.Awaited.{Awaited}
 use Rattle.ig_session.specs.Awaiting.{awaited_of, deal_of, without_nth}
-use Rattle.ig_replies.specs.Laws.{IsBegun}
-use Rattle.ig_session.specs.Soundness.{IsSound}
 use Rattle.ig_session.specs.States.{State}
 use Rattle.ig_session.specs.Steps.{first_out, settled_in, answered_in, answered_at, answered, IsSpent, Lacks}
 use Rattle.ig_session.specs.StandsFor.{ShowsIn, ShowsSoFar, IsIn, IsOpenAt, AwaitFrom, Stands}
@@ -188,8 +186,8 @@ module _ (s : State) (input : List ℕ) (ran : List Ran) (call : Call) (got : Go
   version_is : phase.0.version ≡ own.version
   version_is = ap (λ (t : Terms). t.version) is_open.terms_are
 
-  pub answered_stands : s.waiting.gone ≡ 0 → Stands (answered s got) input (ran ++ last ∷ []) [] output
-  answered_stands begun =
+  pub answered_stands : Stands (answered s got) input (ran ++ last ∷ []) [] output
+  answered_stands =
       let shown : List ℕ = reply_frame phase.0.version (turn (terms_of phase.0) s.desk (deal_of (awaited_of (length ran) it.asked) got)).reply in
       let shown_is : frame ≡ shown = sym (ap (λ v. reply_frame v (turn (terms_of phase.0) s.desk (deal_of (awaited_of (length ran) it.asked) got)).reply) version_is
       ∙ ap (λ (t : Turn). reply_frame own.version t.reply) turn_is) in
@@ -215,11 +213,6 @@ module _ (s : State) (input : List ℕ) (ran : List Ran) (call : Call) (got : Go
         });
         shows = open_shows s.phase phase.0 (out_frames s.cfg session_manner stood.bodies (gots (ran ++ last ∷ []))) (after_push s.waiting shown) output phase.1
             (subst (λ (l : List (List ℕ)). ShowsSoFar l (after_push s.waiting shown) output) (sym (frames_now ∙ ap (λ (f : List ℕ). out_frames s.cfg session_manner stood.bodies (gots ran) ++ f ∷ []) shown_is))
-            (push_shows (out_frames s.cfg session_manner stood.bodies (gots ran)) s.waiting shown output none_waits begun shows_before));
+            (push_shows (out_frames s.cfg session_manner stood.bodies (gots ran)) s.waiting shown output none_waits shows_before));
         one = omega (arith, ap length none_waits, length-append s.waiting.frames (shown ∷ []));
       })
-
--- while a call is out, no reply is begun
-pub none_begun : (s : State) (input : List ℕ) (ran : List Ran) (call : Call) (output : List ℕ) → IsSound s → Stands s input ran (call ∷ []) output → s.waiting.gone ≡ 0
-none_begun s input ran call output sound stood =
-    subst (λ (l : List (List ℕ)). IsBegun l s.waiting.gone) (none_waits s input ran call NoMemory output stood) sound.begun

@@ -17,7 +17,6 @@ use Rattle.ig_deals.proofs.DealLemmas.{calls-append, given_for}
 use Rattle.ig_replies.specs.declared.terms.Terms.{Terms as HeldTerms}
 use Rattle.ig_replies.specs.RunTerms.{terms_of}
 use Rattle.ig_replies.specs.Showing.{Waiting, after_push}
-use Rattle.ig_replies.specs.Laws.{IsBegun}
 use Rattle.ig_session.specs.declared.phase.Phase.{Phase}
 use Rattle.ig_session.specs.declared.phase.Phase.TheVariants.{Open}
 use Rattle.ig_session.specs.declared.awaited.Awaited.{Awaited}
@@ -60,9 +59,6 @@ module _ (s : State) (input : List ℕ) (ran : List Ran) (output : List ℕ) (te
 
   none_waits : s.waiting.frames ≡ []
   none_waits = (comes_as s (Asks terms asked) (λ no. cc) comes).none_waits
-
-  not_begun : s.waiting.gone ≡ 0
-  not_begun = subst (λ (l : List (List ℕ)). IsBegun l s.waiting.gone) none_waits sound.begun
 
   abbrev is_open : IsOpenAt (terms_of terms) s.cfg s.desk stood.bodies ran
   is_open = open_in s.phase terms s.cfg s.desk s.out stood.bodies ran at.is_open stood.phase
@@ -188,6 +184,6 @@ module _ (s : State) (input : List ℕ) (ran : List Ran) (output : List ℕ) (te
         });
         shows = open_shows s.phase terms (out_frames s.cfg session_manner (stood.bodies ++ at.body ∷ []) (gots ran)) (after_push s.waiting frame) output at.is_open
             (subst (λ (l : List (List ℕ)). ShowsSoFar l (after_push s.waiting frame) output) (sym (frames_now (deals ++ deal ∷ []) more ∙ frames_are))
-            (push_shows (hello_frame s.cfg is_open.hello ∷ reply_frames own fresh_desk deals) s.waiting frame output none_waits not_begun shows_before));
+            (push_shows (hello_frame s.cfg is_open.hello ∷ reply_frames own fresh_desk deals) s.waiting frame output none_waits shows_before));
         one = omega (arith, ap length none.0, ap length none_waits, length-append s.waiting.frames (frame ∷ []));
       }

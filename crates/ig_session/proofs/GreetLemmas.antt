@@ -13,7 +13,6 @@ use Rattle.ig_deals.specs.Telling.{session_manner}
 use Rattle.ig_deals.specs.Turns.{Terms}
 use Rattle.ig_deals.specs.OutFrames.{desk_after, terms_at, frames_after, out_frames}
 use Rattle.ig_replies.specs.Showing.{Waiting, after_push}
-use Rattle.ig_replies.specs.Laws.{IsBegun}
 use Rattle.ig_session.specs.declared.phase.Phase.{Phase}
 use Rattle.ig_session.specs.declared.phase.Phase.TheVariants.{BeforeHello, Open, Refused}
 use Rattle.ig_session.specs.declared.awaited.Awaited.{Awaited}
@@ -60,9 +59,6 @@ module _ (s : State) (input : List ℕ) (ran : List Ran) (output : List ℕ) (gr
   none_waits : s.waiting.frames ≡ []
   none_waits = (comes_as s (Greets greeting) (λ no. cc) comes).none_waits
 
-  not_begun : s.waiting.gone ≡ 0
-  not_begun = subst (λ (l : List (List ℕ)). IsBegun l s.waiting.gone) none_waits sound.begun
-
   before : (stood.bodies ≡ []) × (s.desk ≡ fresh_desk)
   before = no_bodies s.phase s.cfg s.desk s.out stood.bodies ran at.before stood.phase
 
@@ -71,7 +67,7 @@ module _ (s : State) (input : List ℕ) (ran : List Ran) (output : List ℕ) (gr
       (reads_body s input stood.bodies at.body at.rest BeforeHello at.before sound.limit (ap (least_after client) (sym before.0)) stood.are_bytes stood.read at.found_is)
 
   shows : ShowsSoFar (greeting_frame s.cfg greeting ∷ []) (after_push s.waiting (greeting_frame s.cfg greeting)) output
-  shows = push_shows [] s.waiting (greeting_frame s.cfg greeting) output none_waits not_begun
+  shows = push_shows [] s.waiting (greeting_frame s.cfg greeting) output none_waits
       (subst (λ (l : List (List ℕ)). ShowsSoFar (out_frames s.cfg session_manner l (gots ran)) s.waiting output) before.0
       (shows_before s.phase (out_frames s.cfg session_manner stood.bodies (gots ran)) s.waiting output at.before stood.shows))
 

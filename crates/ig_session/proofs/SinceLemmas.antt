@@ -1,6 +1,5 @@
 -- Answering all whole frames.
-use Rattle.std.proofs.Common.{◌≡◌, ℕ, zero, suc, ◌+◌, ◌≤◌, Bool, true, false, List, [], ◌∷◌, ◌++◌, length, take, drop, Result, Ok, Err, refl, sym, ap, ◌∙◌, subst, arith, append_assoc, append-nil}
-use Rattle.std.proofs.lemmas.List.{take-append-drop}
+use Rattle.std.proofs.Common.{◌≡◌, ℕ, ◌+◌, ◌≤◌, Bool, true, false, List, [], ◌∷◌, ◌++◌, length, take, drop, Result, Ok, Err, refl, sym, ap, ◌∙◌, subst, arith, append_assoc, append-nil}
 use Rattle.ig_base.specs.declared.entry.Entry.{Entry}
 use Rattle.ig_link.specs.States.{SinkState, SinkAdvances}
 use Rattle.ig_link.proofs.StateLemmas.{SinkAdvances-nothing, SinkAdvances-then, Rose-after}
@@ -15,7 +14,7 @@ use Rattle.ig_deals.specs.Deals.{Got, Ran, gots, entry_of, entries_of}
 use Rattle.ig_deals.specs.Telling.{session_manner}
 use Rattle.ig_deals.specs.OutFrames.{out_frames}
 use Rattle.ig_deals.specs.Serves.{Runs, ShowsPart, joined}
-use Rattle.ig_replies.specs.Showing.{Waiting, waiting_none, bytes_left}
+use Rattle.ig_replies.specs.Showing.{Waiting, waiting_none, left_of, bytes_left}
 use Rattle.ig_session.specs.declared.phase.Phase.{Phase}
 use Rattle.ig_session.specs.declared.phase.Phase.TheVariants.{BeforeHello, Open, Refused, OutOfMemory}
 use Rattle.ig_session.specs.declared.step.Step.{Step}
@@ -25,10 +24,10 @@ use Rattle.ig_session.specs.States.{State}
 use Rattle.ig_session.specs.Comings.{IsPaused, coming}
 use Rattle.ig_session.specs.Soundness.{IsSound}
 use Rattle.ig_session.specs.Steps.{next_step, answered, IsSpent, Lacks}
-use Rattle.ig_session.specs.StandsFor.{ShowsSoFar, ShowsIn, Stands}
+use Rattle.ig_session.specs.StandsFor.{first_gone, ShowsSoFar, ShowsIn, Stands}
 use Rattle.ig_session.specs.Serving.{SentFirst, EndsAnswering, AnswersAll}
 use Rattle.ig_session.proofs.HistoryLemmas.{StandsOn-nothing, joins_keeps}
-use Rattle.ig_session.proofs.StandLemmas.{joined-append}
+use Rattle.ig_session.proofs.StandLemmas.{gone_and_left, joined-append}
 use Rattle.ig_session.proofs.EndLemmas.{all_handed}
 
 -- ---- what waits
@@ -38,8 +37,8 @@ all_sent : (frames : List (List ℕ)) (w : Waiting) (output : List ℕ) → Show
 all_sent frames w output so = record {
   shown = frames;
   frames_are = sym (append-nil frames);
-  output_is = ap (λ (l : List ℕ). l ++ bytes_left w) so.output_is ∙ append_assoc (joined so.shown) (take w.gone (joined w.frames)) (bytes_left w)
-      ∙ ap (λ (l : List ℕ). joined so.shown ++ l) (take-append-drop w.gone (joined w.frames)) ∙ sym (joined-append so.shown w.frames) ∙ ap joined (sym so.frames_are)
+  output_is = ap (λ (l : List ℕ). l ++ bytes_left w) so.output_is ∙ append_assoc (joined so.shown) (first_gone w.frames w.gone) (bytes_left w)
+      ∙ ap (λ (l : List ℕ). joined so.shown ++ l) (gone_and_left w.frames w.gone) ∙ sym (joined-append so.shown w.frames) ∙ ap joined (sym so.frames_are)
       ∙ sym (append-nil (joined frames));
 }
 
@@ -48,7 +47,7 @@ all_sent_in BeforeHello frames w output so = all_sent frames w output so
 all_sent_in (Open terms) frames w output so = all_sent frames w output so
 all_sent_in (Refused fault) frames w output so = all_sent frames w output so
 all_sent_in OutOfMemory frames w output so =
-    let none : bytes_left w ≡ [] = ap (λ (l : List (List ℕ)). drop w.gone (joined l)) so.0 ∙ drop_none w.gone in
+    let none : bytes_left w ≡ [] = ap (λ (l : List (List ℕ)). left_of l w.gone) so.0 in
     (refl, subst (λ (l : List ℕ). ShowsPart frames l) (sym (ap (λ (l : List ℕ). output ++ l) none ∙ append-nil output)) so.1) where
       drop_none : (n : ℕ) → drop n [] ≡ []
       drop_none zero = refl
@@ -76,12 +75,12 @@ part_sent : (frames : List (List ℕ)) (w : Waiting) (output prefix missing : Li
 part_sent frames w output prefix missing one cut so = record {
   whole = so.shown;
   last = w.frames;
-  prefix = take w.gone (joined w.frames) ++ prefix;
+  prefix = first_gone w.frames w.gone ++ prefix;
   missing = missing;
   frames_are = so.frames_are;
   at_most_one = one;
-  cut = sym (take-append-drop w.gone (joined w.frames)) ∙ ap (λ (l : List ℕ). take w.gone (joined w.frames) ++ l) cut ∙ sym (append_assoc (take w.gone (joined w.frames)) prefix missing);
-  output_is = ap (λ (l : List ℕ). l ++ prefix) so.output_is ∙ append_assoc (joined so.shown) (take w.gone (joined w.frames)) prefix;
+  cut = sym (gone_and_left w.frames w.gone) ∙ ap (λ (l : List ℕ). first_gone w.frames w.gone ++ l) cut ∙ sym (append_assoc (first_gone w.frames w.gone) prefix missing);
+  output_is = ap (λ (l : List ℕ). l ++ prefix) so.output_is ∙ append_assoc (joined so.shown) (first_gone w.frames w.gone) prefix;
 }
 
 part_sent_in : (phase : Phase) (frames : List (List ℕ)) (w : Waiting) (output prefix missing : List ℕ) → length w.frames ≤ 1 → bytes_left w ≡ prefix ++ missing → ShowsIn phase frames w output → ShowsPart frames (output ++ prefix)
@@ -89,7 +88,7 @@ part_sent_in BeforeHello frames w output prefix missing one cut so = part_sent f
 part_sent_in (Open terms) frames w output prefix missing one cut so = part_sent frames w output prefix missing one cut so
 part_sent_in (Refused fault) frames w output prefix missing one cut so = part_sent frames w output prefix missing one cut so
 part_sent_in OutOfMemory frames w output prefix missing one cut so =
-    let none : prefix ++ missing ≡ [] = sym cut ∙ ap (λ (l : List (List ℕ)). drop w.gone (joined l)) so.0 ∙ drop_none w.gone in
+    let none : prefix ++ missing ≡ [] = sym cut ∙ ap (λ (l : List (List ℕ)). left_of l w.gone) so.0 in
     subst (λ (l : List ℕ). ShowsPart frames l) (sym (ap (λ (l : List ℕ). output ++ l) (first_none prefix missing none) ∙ append-nil output)) so.1 where
       drop_none : (n : ℕ) → drop n [] ≡ []
       drop_none zero = refl

@@ -1,5 +1,5 @@
 -- What each step keeps of what a session stands for.
-use Rattle.std.proofs.Common.{◌≡◌, ◌⊎◌, inl, inr, ℕ, suc, ◌+◌, ◌≤◌, List, [], ◌∷◌, ◌++◌, map, length, take, drop, Option, None, Some, Result, Ok, Err, zero, refl, sym, ap, ◌∙◌, subst, arith, append-nil, append_assoc, length-append}
+use Rattle.std.proofs.Common.{◌≡◌, ◌⊎◌, inl, inr, ℕ, suc, ◌+◌, ◌≤◌, List, [], ◌∷◌, ◌++◌, map, length, take, drop, Option, None, Some, Result, Ok, Err, refl, sym, ap, ◌∙◌, subst, arith, append-nil, append_assoc, length-append}
 use Rattle.std.proofs.lemmas.List.{length-map, take-append-drop}
 use Rattle.ig_base.specs.Numbers.{AreBytes}
 use Rattle.ig_base.specs.Frames.{client, max_body, least_after, Begins, Frame, front, Body}
@@ -22,13 +22,13 @@ use Rattle.ig_deals.specs.Serves.{joined, ShowsPart}
 use Rattle.std.proofs.lemmas.Grind.{flat_map-append}
 use Rattle.ig_deals.proofs.DealLemmas.{asks-append, calls-append, given_for, dealt-append}
 use Rattle.ig_deals.proofs.ReplyLemmas.{replies-append, reply_frames-append}
-use Rattle.ig_replies.specs.Showing.{Waiting, after_push}
+use Rattle.ig_replies.specs.Showing.{Waiting, left_of, frames_and, after_push}
 use Rattle.ig_session.specs.declared.phase.Phase.{Phase}
 use Rattle.ig_session.specs.declared.phase.Phase.TheVariants.{BeforeHello, Open, Refused, OutOfMemory}
 use Rattle.ig_session.specs.States.{State, new_state}
 use Rattle.ig_session.specs.Comings.{least_in}
 use Rattle.ig_session.specs.Steps.{fed, passed}
-use Rattle.ig_session.specs.StandsFor.{ShowsSoFar, Stands}
+use Rattle.ig_session.specs.StandsFor.{first_gone, ShowsSoFar, Stands}
 
 -- ---- the input
 
@@ -90,36 +90,43 @@ reads_body s input bodies body rest phase is limit least are handed found =
 pub joined-append : (xs ys : List (List ℕ)) → joined (xs ++ ys) ≡ joined xs ++ joined ys
 joined-append xs ys = flat_map-append (λ f. f) xs ys
 
--- a frame is added where none waits
-pub push_shows : (frames : List (List ℕ)) (w : Waiting) (frame output : List ℕ) → w.frames ≡ [] → w.gone ≡ 0 → ShowsSoFar frames w output
-    → ShowsSoFar (frames ++ frame ∷ []) (after_push w frame) output
-push_shows frames w frame output none begun so = record {
-  shown = so.shown;
-  frames_are = ap (λ (l : List (List ℕ)). l ++ frame ∷ []) so.frames_are ∙ append_assoc so.shown w.frames (frame ∷ []);
-  output_is = so.output_is ∙ ap (λ (l : List ℕ). joined so.shown ++ l) (none_taken w.gone (joined w.frames) begun ∙ sym (none_taken w.gone (joined (w.frames ++ frame ∷ [])) begun));
-} where
-  none_taken : (n : ℕ) (bytes : List ℕ) → n ≡ 0 → take n bytes ≡ []
-  none_taken n bytes e = ap (λ (k : ℕ). take k bytes) e
+-- what is gone and what is left of frames are all their bytes
+pub gone_and_left : (frames : List (List ℕ)) (gone : ℕ) → first_gone frames gone ++ left_of frames gone ≡ joined frames
+gone_and_left [] gone = refl
+gone_and_left (frame ∷ frames) gone =
+    sym (append_assoc (take gone frame) (drop gone frame) (joined frames)) ∙ ap (λ (l : List ℕ). l ++ joined frames) (take-append-drop gone frame)
 
 -- where none waits, the frames were written whole
+none_left : (frames : List (List ℕ)) (w : Waiting) (output : List ℕ) → w.frames ≡ [] → (so : ShowsSoFar frames w output) → (frames ≡ so.shown) × (output ≡ joined so.shown)
+none_left frames w output none so = (
+  so.frames_are ∙ ap (λ (l : List (List ℕ)). so.shown ++ l) none ∙ append-nil so.shown,
+  so.output_is ∙ ap (λ (l : List (List ℕ)). joined so.shown ++ first_gone l w.gone) none ∙ append-nil (joined so.shown),
+)
+
+-- a frame is added where none waits
+pub push_shows : (frames : List (List ℕ)) (w : Waiting) (frame output : List ℕ) → w.frames ≡ [] → ShowsSoFar frames w output
+    → ShowsSoFar (frames ++ frame ∷ []) (after_push w frame) output
+push_shows frames w frame output none so =
+    let whole = none_left frames w output none so in
+    subst (λ (v : Waiting). ShowsSoFar (frames ++ frame ∷ []) v output) (sym (ap (λ (l : List (List ℕ)). frames_and l w.gone frame) none)) (record {
+      shown = so.shown;
+      frames_are = ap (λ (l : List (List ℕ)). l ++ frame ∷ []) whole.0;
+      output_is = whole.1 ∙ sym (append-nil (joined so.shown));
+    })
+
 pub all_shown : (frames : List (List ℕ)) (w : Waiting) (output : List ℕ) → w.frames ≡ [] → ShowsSoFar frames w output → output ≡ joined frames
-all_shown frames w output none so =
-    let whole : frames ≡ so.shown = so.frames_are ∙ ap (λ (l : List (List ℕ)). so.shown ++ l) none ∙ append-nil so.shown in
-    so.output_is ∙ ap (λ (l : List (List ℕ)). joined so.shown ++ take w.gone (joined l)) none ∙ ap (λ (l : List ℕ). joined so.shown ++ l) (take_none w.gone) ∙ append-nil (joined so.shown) ∙ ap joined (sym whole) where
-      take_none : (n : ℕ) → take n [] ≡ []
-      take_none zero = refl
-      take_none (suc n) = refl
+all_shown frames w output none so = let whole = none_left frames w output none so in whole.1 ∙ ap joined (sym whole.0)
 
 -- frames of which at most the last waits may be cut off
 pub may_be_cut : (frames : List (List ℕ)) (w : Waiting) (output : List ℕ) → length w.frames ≤ 1 → ShowsSoFar frames w output → ShowsPart frames output
 may_be_cut frames w output one so = record {
   whole = so.shown;
   last = w.frames;
-  prefix = take w.gone (joined w.frames);
-  missing = drop w.gone (joined w.frames);
+  prefix = first_gone w.frames w.gone;
+  missing = left_of w.frames w.gone;
   frames_are = so.frames_are;
   at_most_one = one;
-  cut = sym (take-append-drop w.gone (joined w.frames));
+  cut = sym (gone_and_left w.frames w.gone);
   output_is = so.output_is;
 }
 

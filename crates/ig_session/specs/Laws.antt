@@ -40,7 +40,7 @@ StepStands =
 -- an answer adds to what was given for calls
 abbrev pub AnswerStands : Type 0
 AnswerStands =
-    (s : State) (input : List ℕ) (ran : List Ran) (call : Call) (got : Got) (output : List ℕ) → IsSound s
+    (s : State) (input : List ℕ) (ran : List Ran) (call : Call) (got : Got) (output : List ℕ)
     → Stands s input ran (call ∷ []) output
     → Stands (answered s got) input (ran ++ record { call = call; got = got } ∷ []) [] output
 
@@ -59,7 +59,7 @@ LackStands =
 -- what is written of the piece that is shown adds to the output
 abbrev pub WrittenStands : Type 0
 WrittenStands =
-    (s : State) (input : List ℕ) (ran : List Ran) (out : List Call) (output : List ℕ) (n : ℕ) → IsSound s
+    (s : State) (input : List ℕ) (ran : List Ran) (out : List Call) (output : List ℕ) (n : ℕ)
     → n ≤ length (piece_shown s.waiting) → Stands s input ran out output
     → Stands (written s n) input ran out (output ++ take n (piece_shown s.waiting))
 

@@ -52,6 +52,6 @@ AnswerStandsAhead =
 
 abbrev pub WrittenStandsAhead : Type 0
 WrittenStandsAhead =
-    (s : State) (input : List ℕ) (ran : List HandedAhead) (order output : List ℕ) (n : ℕ) → IsSound s
+    (s : State) (input : List ℕ) (ran : List HandedAhead) (order output : List ℕ) (n : ℕ)
     → n ≤ length (piece_shown s.waiting) → StandsAhead s input ran order output
     → StandsAhead (written s n) input ran order (output ++ take n (piece_shown s.waiting))

@@ -5,7 +5,6 @@ use Rattle.ig_base.specs.Frames.{max_body}
 use Rattle.ig_deals.specs.declared.cfg.SessionCfg.{SessionCfg}
 use Rattle.ig_deals.specs.Laws.{IsDesk}
 use Rattle.ig_replies.specs.RunTerms.{AreTerms}
-use Rattle.ig_replies.specs.Laws.{IsBegun}
 use Rattle.ig_session.specs.declared.phase.Phase.{Phase}
 use Rattle.ig_session.specs.declared.phase.Phase.TheVariants.{BeforeHello, Open, Refused, OutOfMemory}
 use Rattle.ig_session.specs.declared.awaited.Awaited.{Awaited}
@@ -30,10 +29,6 @@ IsSoundPhase OutOfMemory cfg out = Unit {0}
 abbrev pub IsNumbered : ℕ → Awaited → Type 0
 IsNumbered handed awaited = awaited.nth < handed
 
--- a frame has some bytes
-abbrev pub HasBytes : List ℕ → Type 0
-HasBytes frame = 0 < length frame
-
 -- Each request has bytes, so there are fewer cursors and calls than bytes that were read.
 pub record IsSound (s : State) : Type 0 where
   pub cfg : IsCfg s.cfg
@@ -44,5 +39,3 @@ pub record IsSound (s : State) : Type 0 where
   pub cursors : s.desk.next + length s.out ≤ s.stream.place + 1
   pub calls : s.handed ≤ s.stream.place
   pub numbered : AllByRecursion (IsNumbered s.handed) s.out
-  pub frames : AllByRecursion HasBytes s.waiting.frames
-  pub begun : IsBegun s.waiting.frames s.waiting.gone

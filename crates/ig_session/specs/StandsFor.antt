@@ -25,11 +25,16 @@ use Rattle.ig_session.specs.States.{State}
 
 -- ---- the output
 
+-- what is gone of the first of these frames
+abbrev pub first_gone : List (List ℕ) → ℕ → List ℕ
+first_gone [] gone = []
+first_gone (frame ∷ frames) gone = take gone frame
+
 -- the first of these frames were written whole, and the others wait, of which the first bytes may be gone
 pub record ShowsSoFar (frames : List (List ℕ)) (w : Waiting) (output : List ℕ) : Type 0 where
   pub shown : List (List ℕ)
   pub frames_are : frames ≡ shown ++ w.frames
-  pub output_is : output ≡ joined shown ++ take w.gone (joined w.frames)
+  pub output_is : output ≡ joined shown ++ first_gone w.frames w.gone
 
 -- where memory ran out, nothing waits, and the last reply may be missing
 abbrev pub ShowsIn : Phase → List (List ℕ) → Waiting → List ℕ → Type 0

@@ -1,6 +1,6 @@
 //! Hands out the calls of requests, and replies to requests that have none.
 
-ghost use Rattle.std.specs.Prelude.{◌≡◌, ◌≢◌, [], Some, None, Ok, Err, IfOk, OnErr};
+ghost use Rattle.std.specs.Prelude.{◌≡◌, [], Some, None, Ok, Err, IfOk, OnErr};
 ghost use Rattle.ig_caches.specs.declared.request.Request.TheVariants.{Run, NextPage, Close};
 ghost use Rattle.ig_replies.specs.Showing.{showing};
 ghost use Rattle.ig_session.specs.Awaiting.{awaits_of as awaits_for};
@@ -110,7 +110,6 @@ impl Session {
     fn say(&mut self, frame: ReplyFrame) -> Result<Option<Call>, NoMemory>
         requires comes { ComesAny self.old }
         requires fresh { frame ≡ showing frame.frame }
-        requires some { frame.frame ≢ [] }
         ensures ok { IfOk result (λ call. (call ≡ None) × (self.new ≡ said frame.frame self.old)) }
         ensures err { OnErr result (IsSpent self.old self.new self.old.out) }
     {

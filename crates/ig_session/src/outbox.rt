@@ -26,7 +26,7 @@ impl Model for Outbox {
 }
 
 impl Outbox {
-    ghost use Rattle.std.specs.Prelude.{◌≡◌, ◌≢◌, ◌<◌, ◌≤◌, ◌↔◌, [], length, IfOk, OnOk, OnErr, IsTrue};
+    ghost use Rattle.std.specs.Prelude.{◌≡◌, ◌<◌, ◌≤◌, ◌↔◌, [], length, IfOk, OnOk, OnErr, IsTrue};
     ghost use Rattle.ig_wire.specs.Limits.{piece_bytes};
     ghost use Rattle.ig_replies.specs.Showing.{waiting_none, piece_shown, after_gone, after_push, showing};
 
@@ -53,7 +53,8 @@ impl Outbox {
 
     /// What is to be written next: up to 65,536 bytes of the first frame.
     pub(crate) fn waiting(&self) -> &[u8]
-        ensures { result.now ≡ piece_shown self.now }
+        ensures shown { result.now ≡ piece_shown self.now }
+        ensures end { (result.now ≡ []) ↔ (self.now.frames ≡ []) }
     {
         if self.gone < self.hello.len() {
             return &self.hello.as_slice()[self.gone..];
@@ -86,8 +87,7 @@ impl Outbox {
 
     /// Adds a reply to a request. Where nothing waits it takes no memory. On an error all is as before.
     pub(crate) fn push(&mut self, frame: ReplyFrame) -> Result<(), NoMemory>
-        requires fresh { frame ≡ showing frame.frame }
-        requires some { frame.frame ≢ [] }
+        requires { frame ≡ showing frame.frame }
         ensures ok { OnOk result (self.new ≡ after_push self.old frame.frame) }
         ensures err { OnErr result (self.new ≡ self.old) }
     {

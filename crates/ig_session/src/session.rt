@@ -54,7 +54,7 @@ impl Model for Session {
 }
 
 impl Session {
-    ghost use Rattle.std.specs.Prelude.{◌≡◌, ◌≤◌, ◌+◌, [], length, IfOk, OnOk, OnErr};
+    ghost use Rattle.std.specs.Prelude.{◌≡◌, ◌↔◌, ◌≤◌, ◌+◌, [], length, IfOk, OnOk, OnErr};
     ghost use Rattle.ig_base.specs.Numbers.{AreBytes};
     ghost use Rattle.ig_replies.specs.Showing.{piece_shown};
     ghost use Rattle.ig_session.specs.Cfg.{IsCfg};
@@ -125,7 +125,8 @@ impl Session {
     /// The bytes to be written next: up to 65,536 bytes of the first reply that waits, and nothing where
     /// none waits. Takes no memory.
     pub fn waiting(&self) -> &[u8]
-        ensures { result.now ≡ piece_shown self.now.waiting }
+        ensures shown { result.now ≡ piece_shown self.now.waiting }
+        ensures end { (result.now ≡ []) ↔ (self.now.waiting.frames ≡ []) }
     {
         self.outbox.waiting()
     }

@@ -1,5 +1,5 @@
 use Rattle.ig_session.proofs.StandLemmas.{new_stands, fed_stands}
-use Rattle.ig_session.proofs.AnswerLemmas.{answered_stands, lost_stands, none_begun}
+use Rattle.ig_session.proofs.AnswerLemmas.{answered_stands, lost_stands}
 use Rattle.ig_session.proofs.WriteLemmas.{written_stands}
 use Rattle.ig_session.proofs.StepLemmas.{step_stands, lack_stands}
 use Rattle.ig_session.proofs.laws.sessions_stand.Goals as goal
@@ -9,7 +9,7 @@ returns c = record {
   new = new_stands;
   fed = fed_stands;
   step = step_stands;
-  answer = λ s input ran call got output sound stood. answered_stands s input ran call got output stood (none_begun s input ran call output sound stood);
+  answer = answered_stands;
   lost = λ s new input ran call got output spent stood. lost_stands s input ran call got output stood new spent;
   lack = lack_stands;
   written = written_stands;
