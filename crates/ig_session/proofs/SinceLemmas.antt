@@ -48,10 +48,7 @@ all_sent_in (Open terms) frames w output so = all_sent frames w output so
 all_sent_in (Refused fault) frames w output so = all_sent frames w output so
 all_sent_in OutOfMemory frames w output so =
     let none : bytes_left w ≡ [] = ap (λ (l : List (List ℕ)). left_of l w.gone) so.0 in
-    (refl, subst (λ (l : List ℕ). ShowsPart frames l) (sym (ap (λ (l : List ℕ). output ++ l) none ∙ append-nil output)) so.1) where
-      drop_none : (n : ℕ) → drop n [] ≡ []
-      drop_none zero = refl
-      drop_none (suc n) = refl
+    (refl, subst (λ (l : List ℕ). ShowsPart frames l) (sym (ap (λ (l : List ℕ). output ++ l) none ∙ append-nil output)) so.1)
 
 pub sent_stands : (s : State) (input : List ℕ) (ran : List Ran) (out : List Call) (output : List ℕ) → Stands s input ran out output
     → Stands (record s { waiting = waiting_none }) input ran out (output ++ bytes_left s.waiting)
@@ -90,10 +87,6 @@ part_sent_in (Refused fault) frames w output prefix missing one cut so = part_se
 part_sent_in OutOfMemory frames w output prefix missing one cut so =
     let none : prefix ++ missing ≡ [] = sym cut ∙ ap (λ (l : List (List ℕ)). left_of l w.gone) so.0 in
     subst (λ (l : List ℕ). ShowsPart frames l) (sym (ap (λ (l : List ℕ). output ++ l) (first_none prefix missing none) ∙ append-nil output)) so.1 where
-      drop_none : (n : ℕ) → drop n [] ≡ []
-      drop_none zero = refl
-      drop_none (suc n) = refl
-
       first_none : (xs ys : List ℕ) → xs ++ ys ≡ [] → xs ≡ []
       first_none [] ys e = refl
       first_none (x ∷ xs) ys e = absurd cc
