@@ -231,10 +231,10 @@ fn shown(session: &mut Session) -> Result<(usize, usize), NoMemory> {
     Ok((times, bytes))
 }
 
-/// The longest text is shown in 128 pieces, of which the last has 65,532 bytes.
+/// A reply of 200,021 bytes is shown in four pieces.
 #[test]
 fn a_long_reply_is_shown_in_pieces(rt: HostRuntime) -> Result<(), Fail> {
-    let input = long_input(rt.alloc(), 8_388_583)?;
+    let input = long_input(rt.alloc(), 200_000)?;
     let mut caches = caches(rt.alloc())?;
     let mut session = Session::new(rt.alloc(), CFG)?;
     let mut all = input.as_slice();
@@ -244,8 +244,8 @@ fn a_long_reply_is_shown_in_pieces(rt: HostRuntime) -> Result<(), Fail> {
             Step::Run(call) => {
                 session.answer(caches.run(call))?;
                 let (times, bytes) = shown(&mut session)?;
-                replies.push(if times == 128 { 128 } else { 1 })?;
-                assert!(rt; times == 1 || bytes == 8_388_604);
+                replies.push(if times == 4 { 4 } else { 1 })?;
+                assert!(rt; times == 1 || bytes == 200_021);
             }
             Step::Out => {
                 let count = session.waiting().len();
@@ -266,7 +266,7 @@ fn a_long_reply_is_shown_in_pieces(rt: HostRuntime) -> Result<(), Fail> {
             Step::Stop(_) => break,
         }
     }
-    assert!(rt; replies.as_slice() == &[1u8, 128][..]);
+    assert!(rt; replies.as_slice() == &[1u8, 4][..]);
     assert_eq!(rt; session.held(), 0);
     Ok(())
 }
