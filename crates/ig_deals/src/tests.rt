@@ -32,12 +32,11 @@ fn cursors_are_taken_by_number(rt: HostRuntime) -> Result<(), Fail> {
         return Ok(());
     };
     assert!(rt; desk.take(1).is_none());
-    let first = cursor.next_page().len();
     let more = cursor.has_more();
-    cursor.pass_page();
-    cursor.pass_page();
-    let last = cursor.next_page().len();
+    let first = cursor.take_page()?.as_slice().len();
+    cursor.take_page()?;
     let ended = !cursor.has_more();
+    let last = cursor.take_page()?.as_slice().len();
     assert_eq!(rt; (number, first, more, last, ended), (1, 2, true, 1, true));
     Ok(())
 }

@@ -1,38 +1,41 @@
 -- That a command does what its words ask for.
-use Rattle.std.proofs.Common.{◌≡◌, ℕ, List, [], ◌∷◌, Option, Some, refl, subst}
+use Rattle.std.proofs.Common.{◌≡◌, ◌⊎◌, inl, inr, ℕ, List, [], ◌∷◌, Option, Some, refl, subst}
 use Rattle.ig_link.specs.States.{SourceState, SinkState}
-use Rattle.ig_session.specs.Caches.{Plain, opened}
-use Rattle.ig_session.specs.Standing.{StandsAlone}
+use Rattle.ig_link.proofs.StateLemmas.{SourceAdvances-nothing, SinkAdvances-nothing}
+use Rattle.ig_base.specs.Frames.{client}
+use Rattle.ig_base.proofs.FrameLemmas.{Begins-start}
+use Rattle.ig_caches.specs.PlainCaches.{PlainCaches, fresh_caches}
+use Rattle.ig_caches.specs.Starts.{CanStart}
+use Rattle.ig_deals.specs.declared.end.SessionEnd.{SessionEnd}
+use Rattle.ig_deals.specs.declared.end.SessionEnd.TheVariants as ends
+use Rattle.ig_session.specs.StandsAlone.{StandsAlone}
 use Rattle.ig_session.specs.Serving.{Served}
 use Rattle.ig_session.specs.declared.caller.Alone.{Alone}
-use Rattle.ig_session.specs.declared.end.SessionEnd.{SessionEnd}
-use Rattle.ig_session.specs.declared.end.SessionEnd.TheVariants as ends
-use Rattle.ig_session.proofs.LoopLemmas.{nothing_ran}
-use Rattle.ig_link.proofs.StateLemmas.{SourceAdvances-nothing, SinkAdvances-nothing}
-use Rattle.ignite_thin.specs.Words.{pipe_name}
+use Rattle.ignite_thin.specs.Words.{pipe_names}
 use Rattle.ignite_thin.specs.Statuses.{status_of}
-use Rattle.ignite_thin.specs.Plain.{PipeRuns, RunsPipe, RunsPlain}
+use Rattle.ignite_thin.specs.Plain.{one_node, PipeRuns, IsUsage, RunsPipe, RunsPlain}
 
 -- what was served by a caller over caches without rows has a legal history
-pub pipe_runs : {E : Type 0} (caches : E → Plain) (caller caller' : Alone E) (name : List ℕ) (source source' : SourceState) (sink sink' : SinkState) (end : SessionEnd) (status : ℕ)
-    → StandsAlone caches caller (opened (name ∷ [])) [] → Served (StandsAlone caches) 0 caller caller' source source' sink sink' end → status ≡ status_of end
-    → PipeRuns name source source' sink sink' status
-pipe_runs caches caller caller' name source source' sink sink' end status stood served is = record {
+pub pipe_runs : {E : Type 0} (caches : E → PlainCaches) (caller caller' : Alone E) (names : List (List ℕ)) (source source' : SourceState) (sink sink' : SinkState) (end : SessionEnd) (status : ℕ)
+    → StandsAlone caches caller (fresh_caches names) [] → CanStart names → Served (StandsAlone caches) 0 one_node caller caller' source source' sink sink' end → status ≡ status_of end
+    → PipeRuns names source source' sink sink' status
+pipe_runs caches caller caller' names source source' sink sink' end status stood can served is = record {
   end = end;
   input = served.input;
   output = served.output;
   entries = served.entries;
-  legal = (served.keeps.keeps (opened (name ∷ [])) [] stood).legal;
+  legal = (served.keeps.keeps (fresh_caches names) [] stood).legal;
   takes = served.takes;
   writes = served.writes;
   serves = served.serves;
   caused = served.caused;
   status_is = is;
+  named = λ no. can;
 }
 
 -- out of memory before anything was read
-pub pipe_none : (name : List ℕ) (source : SourceState) (sink : SinkState) → PipeRuns name source source sink sink 5
-pipe_none name source sink = record {
+pub pipe_none : (names : List (List ℕ)) (source : SourceState) (sink : SinkState) → PipeRuns names source source sink sink 5
+pipe_none names source sink = record {
   end = ends.NoMemory;
   input = [];
   output = [];
@@ -40,11 +43,29 @@ pipe_none name source sink = record {
   legal = tt;
   takes = SourceAdvances-nothing source;
   writes = SinkAdvances-nothing sink;
-  serves = record { results = []; entries_are = refl; runs = nothing_ran };
+  serves = record {
+    ran = [];
+    entries_are = refl;
+    runs = record {
+      bodies = [];
+      after = [];
+      within = omega arith;
+      begins = Begins-start client [];
+      ends_by = tt;
+      handed_out = refl;
+      shows = record { whole = []; last = []; prefix = []; missing = []; frames_are = refl; at_most_one = omega arith; cut = refl; output_is = refl };
+    };
+  };
   caused = (refl, refl);
   status_is = refl;
+  named = λ no. absurd (no refl);
 }
 
-pub named : (words : List (List ℕ)) (name : List ℕ) (source source' : SourceState) (sink sink' : SinkState) (status : ℕ) → Some name ≡ pipe_name words
-    → PipeRuns name source source' sink sink' status → RunsPlain words source source' sink sink' status
-named words name source source' sink sink' status e runs = subst (λ (n : Option (List ℕ)). RunsPipe n source source' sink sink' status) e runs
+pub named : (words names : List (List ℕ)) (source source' : SourceState) (sink sink' : SinkState) (status : ℕ) → Some names ≡ pipe_names words
+    → PipeRuns names source source' sink sink' status → RunsPlain words source source' sink sink' status
+named words names source source' sink sink' status e runs = subst (λ (n : Option (List (List ℕ))). RunsPipe n source source' sink sink' status) e (inl runs)
+
+-- names with which no caches start are no command
+pub refused : (words names : List (List ℕ)) (source : SourceState) (sink : SinkState) → Some names ≡ pipe_names words → ¬ (CanStart names) → RunsPlain words source source sink sink 1
+refused words names source sink e no =
+    subst (λ (n : Option (List (List ℕ))). RunsPipe n source source sink sink 1) e (inr (no, record { status_is = refl; source_is = refl; sink_is = refl }))

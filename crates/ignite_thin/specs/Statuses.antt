@@ -1,7 +1,7 @@
 -- The program's exit status.
 use Rattle.std.specs.Prelude.{ℕ}
-use Rattle.ig_session.specs.declared.end.SessionEnd.{SessionEnd}
-use Rattle.ig_session.specs.declared.end.SessionEnd.TheVariants as ends
+use Rattle.ig_deals.specs.declared.end.SessionEnd.{SessionEnd}
+use Rattle.ig_deals.specs.declared.end.SessionEnd.TheVariants as ends
 
 -- the status that says how a session ended
 abbrev pub status_of : SessionEnd → ℕ

@@ -77,10 +77,11 @@ impl fmt::Display for Help {
 }
 
 const COMMANDS: &str = "\
-usage: ignite_thin pipe NAME
+usage: ignite_thin pipe NAME ..
        ignite_thin --help | --version
 
-pipe    serves one session over standard input and output, with the one cache NAME,
-        which isn't empty, doesn't begin with a hyphen and is ASCII
+pipe    serves one session over standard input and output, with 1 to 64 caches. A name isn't
+        empty and doesn't begin with a hyphen, and no two have the same identifier: the Java
+        hash of the name
 
 The exit status:";

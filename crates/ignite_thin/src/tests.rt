@@ -215,15 +215,50 @@ fn a_refused_request_has_its_reason_and_the_session_goes_on(rt: HostRuntime) -> 
 }
 
 /// Openings of a session: the bytes in, the bytes out, and the status.
-static OPENINGS: [(&str, &str, u8); 4] = [
+static OPENINGS: [(&str, &str, u8); 12] = [
     ("08000000 01 0100 0000 0000 02", "01000000 01", 0),
     (
+        "08000000 01 0100 0400 0000 02",
+        "12000000 01 0A 0000000000000000 0100000000000000",
+        0,
+    ),
+    // Another version, and what follows isn't looked at.
+    (
         "08000000 01 0100 0700 0000 02",
-        "1F000000 00 0100 0000 0000 09 13000000 756E737570706F727465642076657273696F6E",
+        "1F000000 00 0100 0400 0000 09 13000000 756E737570706F727465642076657273696F6E",
+        4,
+    ),
+    (
+        "08000000 01 0100 0700 0000 02 FFFFFFFF",
+        "1F000000 00 0100 0400 0000 09 13000000 756E737570706F727465642076657273696F6E",
+        4,
+    ),
+    // No hello, and another client code.
+    (
+        "08000000 02 0100 0000 0000 02",
+        "1B000000 00 0100 0400 0000 09 0F000000 6E6F7420612068616E647368616B65",
+        4,
+    ),
+    (
+        "08000000 01 0100 0000 0000 03",
+        "23000000 00 0100 0400 0000 09 17000000 756E737570706F7274656420636C69656E7420636F6465",
+        4,
+    ),
+    // Logins.
+    (
+        "14000000 01 0100 0100 0000 02 09 01000000 75 09 01000000 70",
+        "01000000 01",
+        0,
+    ),
+    ("0A000000 01 0100 0100 0000 02 65 65", "01000000 01", 0),
+    (
+        "09000000 01 0100 0000 0000 02 65",
+        "1F000000 00 0100 0400 0000 09 13000000 6D616C666F726D65642068616E647368616B65",
         4,
     ),
     ("", "", 4),
     ("08000000 01 0100", "", 4),
+    ("07000000 01 0100", "", 4),
 ];
 
 /// The first opening that is answered otherwise.
@@ -243,8 +278,253 @@ fn wrong_opening(alloc: Global) -> Result<Option<&'static str>, Fail> {
 }
 
 #[test]
-fn only_the_spoken_version_is_accepted(rt: HostRuntime) -> Result<(), Fail> {
+fn hellos_are_accepted_or_refused_for_their_first_fault(rt: HostRuntime) -> Result<(), Fail> {
     assert_eq!(rt; wrong_opening(rt.alloc())?, None);
+    Ok(())
+}
+
+/// What a client sends, and the reply to it.
+type Exchange = (&'static str, &'static str);
+
+/// The opening at 1.0.0.
+const FIRST: Exchange = ("08000000 01 0100 0000 0000 02", "01000000 01");
+
+/// The opening at 1.4.0.
+const TELLING: Exchange = (
+    "08000000 01 0100 0400 0000 02",
+    "12000000 01 0A 0000000000000000 0100000000000000",
+);
+
+/// Puts of int 1 to 5, each to itself.
+const FIVE: Exchange = (
+    "45000000 EC03 0900000000000000 B9053300 00 05000000 0301000000 0301000000 0302000000 \
+     0302000000 0303000000 0303000000 0304000000 0304000000 0305000000 0305000000",
+    "0C000000 0900000000000000 00000000",
+);
+
+/// A scan of them by pages of two.
+const SCAN: Exchange = (
+    "19000000 D007 0100000000000000 B9053300 00 65 02000000 FFFFFFFF 00",
+    "2D000000 0100000000000000 00000000 0100000000000000 02000000 0301000000 0301000000 \
+     0302000000 0302000000 01",
+);
+
+/// A creation of the cache `x`, at 1.0.0.
+const CREATE: Exchange = (
+    "10000000 1B04 0100000000000000 09 01000000 78",
+    "0C000000 0100000000000000 00000000",
+);
+
+/// Sessions in which every request is answered.
+static SESSIONS: [&[Exchange]; 10] = [
+    // A get from a cache that isn't there, and operations that aren't.
+    &[
+        FIRST,
+        (
+            "14000000 E803 0300000000000000 07000000 00 0301000000",
+            "25000000 0300000000000000 E8030000 09 14000000 636163686520646F6573206E6F74206578697374",
+        ),
+        (
+            "0A000000 D207 0500000000000000",
+            "27000000 0500000000000000 02000000 09 16000000 696E76616C6964206F7065726174696F6E20636F6465",
+        ),
+        (
+            "0E000000 4D04 0500000000000000 00000000",
+            "27000000 0500000000000000 02000000 09 16000000 696E76616C6964206F7065726174696F6E20636F6465",
+        ),
+        (
+            "10000000 E803 0100000000000000 B9053300 00 65",
+            "22000000 0100000000000000 01000000 09 11000000 6E756C6C206B6579206F722076616C7565",
+        ),
+    ],
+    // Several keys.
+    &[
+        FIRST,
+        (
+            "31000000 EC03 0100000000000000 B9053300 00 03000000 0301000000 0302000000 0301000000 0303000000 0304000000 0305000000",
+            "0C000000 0100000000000000 00000000",
+        ),
+        (
+            "27000000 EB03 0200000000000000 B9053300 00 04000000 0304000000 0301000000 0309000000 0304000000",
+            "24000000 0200000000000000 00000000 02000000 0304000000 0305000000 0301000000 0303000000",
+        ),
+    ],
+    // A scan's pages are its own rows, whatever was put since.
+    &[
+        FIRST,
+        FIVE,
+        SCAN,
+        (
+            "19000000 E903 0800000000000000 B9053300 00 0306000000 0306000000",
+            "0C000000 0800000000000000 00000000",
+        ),
+        (
+            "12000000 D107 0200000000000000 0100000000000000",
+            "25000000 0200000000000000 00000000 02000000 0303000000 0303000000 0304000000 0304000000 01",
+        ),
+        (
+            "12000000 D107 0300000000000000 0100000000000000",
+            "1B000000 0300000000000000 00000000 01000000 0305000000 0305000000 00",
+        ),
+        (
+            "12000000 D107 0400000000000000 0100000000000000",
+            "28000000 0400000000000000 F3030000 09 17000000 7265736F7572636520646F6573206E6F74206578697374",
+        ),
+    ],
+    // A cursor is closed once. A refused scan draws no number.
+    &[
+        FIRST,
+        FIVE,
+        (
+            "19000000 D007 0700000000000000 07000000 00 65 02000000 FFFFFFFF 00",
+            "25000000 0700000000000000 E8030000 09 14000000 636163686520646F6573206E6F74206578697374",
+        ),
+        SCAN,
+        (
+            "12000000 0000 0200000000000000 0100000000000000",
+            "0C000000 0200000000000000 00000000",
+        ),
+        (
+            "12000000 0000 0300000000000000 0100000000000000",
+            "28000000 0300000000000000 F3030000 09 17000000 7265736F7572636520646F6573206E6F74206578697374",
+        ),
+    ],
+    // Replacing, and sizes.
+    &[
+        FIRST,
+        (
+            "19000000 E903 0100000000000000 B9053300 00 0301000000 0302000000",
+            "0C000000 0100000000000000 00000000",
+        ),
+        (
+            "1E000000 F203 0200000000000000 B9053300 00 0301000000 0303000000 0304000000",
+            "0D000000 0200000000000000 00000000 00",
+        ),
+        (
+            "13000000 FC03 0300000000000000 B9053300 00 00000000",
+            "14000000 0300000000000000 00000000 0100000000000000",
+        ),
+        (
+            "14000000 FC03 0400000000000000 B9053300 00 01000000 01",
+            "14000000 0400000000000000 00000000 0000000000000000",
+        ),
+    ],
+    // Types and their names.
+    &[
+        FIRST,
+        (
+            "2C000000 BB0B 0100000000000000 05000000 09 01000000 50 65 01000000 09 01000000 61 03000000 61000000 00 00000000",
+            "0C000000 0100000000000000 00000000",
+        ),
+        (
+            "0E000000 BA0B 0200000000000000 05000000",
+            "2F000000 0200000000000000 00000000 01 05000000 09 01000000 50 65 01000000 09 01000000 61 03000000 61000000 00 00000000",
+        ),
+        (
+            "15000000 B90B 0300000000000000 00 05000000 09 01000000 50",
+            "0D000000 0300000000000000 00000000 01",
+        ),
+        (
+            "15000000 B90B 0400000000000000 00 05000000 09 01000000 51",
+            "0D000000 0400000000000000 00000000 00",
+        ),
+        (
+            "0F000000 B80B 0500000000000000 00 05000000",
+            "12000000 0500000000000000 00000000 09 01000000 50",
+        ),
+    ],
+    // Caches that are created, and their names.
+    &[
+        FIRST,
+        CREATE,
+        (
+            "10000000 1B04 0200000000000000 09 01000000 78",
+            "1D000000 0200000000000000 E9030000 09 0C000000 636163686520657869737473",
+        ),
+        (
+            "0A000000 1A04 0300000000000000",
+            "1F000000 0300000000000000 00000000 02000000 09 04000000 6D61696E 09 01000000 78",
+        ),
+    ],
+    // The topology is told once while it stays the same.
+    &[
+        TELLING,
+        (
+            "19000000 E903 0100000000000000 B9053300 00 0301000000 0302000000",
+            "16000000 0100000000000000 0200 0100000000000000 00000000",
+        ),
+        (
+            "14000000 E803 0200000000000000 B9053300 00 0301000000",
+            "0F000000 0200000000000000 0000 0302000000",
+        ),
+        (
+            "14000000 E803 0300000000000000 07000000 00 0301000000",
+            "27000000 0300000000000000 0100 E8030000 09 14000000 636163686520646F6573206E6F74206578697374",
+        ),
+        (
+            "0E000000 4D04 0500000000000000 00000000",
+            "1A000000 0500000000000000 0000 0100000000000000 00000000 00000000",
+        ),
+    ],
+    // A refusal tells it too.
+    &[
+        TELLING,
+        (
+            "14000000 E803 0300000000000000 07000000 00 0301000000",
+            "33000000 0300000000000000 0300 0100000000000000 00000000 E8030000 09 14000000 636163686520646F6573206E6F74206578697374",
+        ),
+    ],
+    // It is told again where it changed. A request that doesn't read, and a next page, never tell it.
+    &[
+        TELLING,
+        (
+            "0A000000 E803 0700000000000000",
+            "2A000000 0700000000000000 0100 01000000 09 17000000 6D616C666F726D65642072657175657374206174203134",
+        ),
+        (
+            "12000000 D107 0200000000000000 0100000000000000",
+            "2A000000 0200000000000000 0100 F3030000 09 17000000 7265736F7572636520646F6573206E6F74206578697374",
+        ),
+        (
+            "19000000 E903 0100000000000000 B9053300 00 0301000000 0302000000",
+            "16000000 0100000000000000 0200 0100000000000000 00000000",
+        ),
+        (
+            "10000000 1B04 0200000000000000 09 01000000 78",
+            "16000000 0200000000000000 0200 0100000000000000 01000000",
+        ),
+        (
+            "10000000 1B04 0300000000000000 09 01000000 78",
+            "1F000000 0300000000000000 0100 E9030000 09 0C000000 636163686520657869737473",
+        ),
+    ],
+];
+
+/// What a client sends in a session and what it gets, each laid end to end.
+fn streams(alloc: Global, exchanges: &[Exchange]) -> Result<(Octets, Octets), NoMemory> {
+    let mut input = Octets::empty(alloc);
+    let mut output = Octets::empty(alloc);
+    for (request, reply) in exchanges {
+        input.append(bytes(alloc, request)?.as_slice())?;
+        output.append(bytes(alloc, reply)?.as_slice())?;
+    }
+    Ok((input, output))
+}
+
+/// The first session that is answered otherwise.
+fn wrong_session(alloc: Global) -> Result<Option<usize>, Fail> {
+    for (at, exchanges) in SESSIONS.iter().enumerate() {
+        let (input, output) = streams(alloc, exchanges)?;
+        if !answers(alloc, input.as_slice(), output.as_slice(), 0)? {
+            return Ok(Some(at));
+        }
+    }
+    Ok(None)
+}
+
+#[test]
+fn every_request_is_answered(rt: HostRuntime) -> Result<(), Fail> {
+    assert_eq!(rt; wrong_session(rt.alloc())?, None);
     Ok(())
 }
 
@@ -438,76 +718,105 @@ fn the_longest_request_is_answered(rt: HostRuntime) -> Result<(), Fail> {
     check(&rt, &client, &server, 0)
 }
 
-/// A hello, a put and a get, and the replies to them.
-fn short_session(alloc: Global) -> Result<(Octets, Octets), NoMemory> {
-    let mut client = Stream::client(alloc)?;
-    let mut server = Stream::server(alloc)?;
-    client.put(1, &int(1), &int(2))?;
-    server.done(1)?;
-    client.get(2, &int(1))?;
-    server.found(2, &int(2))?;
-    Ok((client.bytes, server.bytes))
+/// A session with a scan, a next page and a creation.
+static CUT: [Exchange; 5] = [
+    FIRST,
+    FIVE,
+    SCAN,
+    (
+        "12000000 D107 0200000000000000 0100000000000000",
+        "25000000 0200000000000000 00000000 02000000 0303000000 0303000000 0304000000 0304000000 01",
+    ),
+    CREATE,
+];
+
+/// How many bytes of the replies are due once this many bytes of that session came, and whether these
+/// are whole frames of it, from the hello on.
+fn due(alloc: Global, taken: usize) -> Result<(usize, bool), NoMemory> {
+    let mut came = 0;
+    let mut due = 0;
+    for (request, reply) in &CUT {
+        let whole = came + bytes(alloc, request)?.len();
+        if taken < whole {
+            return Ok((due, taken == came && came > 0));
+        }
+        came = whole;
+        due += bytes(alloc, reply)?.len();
+    }
+    Ok((due, taken == came))
 }
 
-/// How many bytes of the replies are due once this many bytes of the short session came.
-fn due(taken: usize) -> usize {
-    match taken {
-        0..12 => 0,
-        12..41 => 5,
-        41..65 => 21,
-        _ => 42,
+/// Whether a run over the first bytes of the session ended with this status after these replies.
+fn ends_so(
+    alloc: Global,
+    taken: &[u8],
+    fails: bool,
+    shown: &[u8],
+    status: u8,
+) -> Result<bool, Fail> {
+    let run = run_over(alloc, &["pipe", "main"], taken, fails, Vec::new(alloc))?;
+    Ok(run.status == status && run.sink.written() == Some(shown))
+}
+
+/// The first cut of the input after which another status or other replies come, whether the input ends
+/// there or fails.
+fn wrong_cut(alloc: Global) -> Result<Option<usize>, Fail> {
+    let (input, output) = streams(alloc, &CUT)?;
+    for cut in 0..=input.len() {
+        let taken = input.as_slice().get(..cut).unwrap_or(&[]);
+        let (due, is_whole) = due(alloc, cut)?;
+        let shown = output.as_slice().get(..due).unwrap_or(&[]);
+        if !ends_so(alloc, taken, false, shown, if is_whole { 0 } else { 4 })? {
+            return Ok(Some(cut));
+        }
+        if !ends_so(alloc, taken, true, shown, 2)? {
+            return Ok(Some(cut));
+        }
     }
+    Ok(None)
 }
 
 #[test]
 fn an_input_cut_after_any_byte_has_all_due_replies(rt: HostRuntime) -> Result<(), Fail> {
-    let (input, output) = short_session(rt.alloc())?;
-    for cut in 0..66usize {
-        let taken = input.as_slice().get(..cut).unwrap_or(&[]);
-        let shown = output.as_slice().get(..due(cut));
-        let words = &["pipe", "main"];
-        let ended = run_over(rt.alloc(), words, taken, false, Vec::new(rt.alloc()))?;
-        let well = matches!(cut, 12 | 41 | 65);
-        assert_eq!(rt; ended.status, if well { 0 } else { 4 });
-        assert!(rt; ended.sink.written() == shown);
-        let failed = run_over(rt.alloc(), words, taken, true, Vec::new(rt.alloc()))?;
-        assert_eq!(rt; failed.status, 2);
-        assert!(rt; failed.sink.written() == shown);
-    }
+    assert_eq!(rt; wrong_cut(rt.alloc())?, None);
     Ok(())
 }
 
-/// The sink takes one byte at a time and fails after each number of bytes in turn.
-#[test]
-fn an_output_that_fails_has_the_first_bytes_of_the_replies(rt: HostRuntime) -> Result<(), Fail> {
-    let (input, output) = short_session(rt.alloc())?;
-    for sent in 0..43usize {
-        let mut writes = Vec::new(rt.alloc());
+/// The first number of bytes after which a sink that takes one byte at a time and then fails has other
+/// bytes than the first of the replies.
+fn wrong_write(alloc: Global) -> Result<Option<usize>, Fail> {
+    let (input, output) = streams(alloc, &CUT)?;
+    for sent in 0..=output.len() {
+        let mut writes = Vec::new(alloc);
         for _ in 0..sent {
             writes.push(WriteStep::AtMost(1))?;
         }
         writes.push(WriteStep::Fault)?;
-        let run = run_over(
-            rt.alloc(),
-            &["pipe", "main"],
-            input.as_slice(),
-            false,
-            writes,
-        )?;
-        assert_eq!(rt; run.status, if sent < 42 { 3 } else { 0 });
-        assert!(rt; run.sink.written() == output.as_slice().get(..sent));
+        let run = run_over(alloc, &["pipe", "main"], input.as_slice(), false, writes)?;
+        let status = if sent < output.len() { 3 } else { 0 };
+        if run.status != status || run.sink.written() != output.as_slice().get(..sent) {
+            return Ok(Some(sent));
+        }
     }
+    Ok(None)
+}
+
+#[test]
+fn an_output_that_fails_has_the_first_bytes_of_the_replies(rt: HostRuntime) -> Result<(), Fail> {
+    assert_eq!(rt; wrong_write(rt.alloc())?, None);
     Ok(())
 }
 
 /// Words that are no command.
-static OTHER_WORDS: [&[&str]; 9] = [
+static OTHER_WORDS: [&[&str]; 10] = [
     &[],
     &["pipe"],
     &["pipe", "main", "main"],
-    &["pipe", "-x"],
+    // Two names with one identifier.
+    &["pipe", "Aa", "BB"],
+    &["pipe", "main", "-x"],
     &["pipe", ""],
-    &["pipe", "n\u{E9}"],
+    &["pipe", "main", ""],
     &["mill", "01", "7"],
     &["serve", "--nodes", "0", "main"],
     &["Pipe", "main"],
@@ -515,7 +824,7 @@ static OTHER_WORDS: [&[&str]; 9] = [
 
 #[test]
 fn other_words_read_and_write_nothing(rt: HostRuntime) -> Result<(), Fail> {
-    let (input, _) = short_session(rt.alloc())?;
+    let (input, _) = streams(rt.alloc(), &CUT)?;
     for words in &OTHER_WORDS {
         let run = run_over(
             rt.alloc(),

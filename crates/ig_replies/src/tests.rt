@@ -1,0 +1,315 @@
+use super::*;
+use ig_base::{Items, NoMemory, Octets};
+use ig_caches::{Answer, Call, Outcome, Pair, Why};
+use ig_deals::{Desk, Manner, SessionCfg};
+use ig_encode::encode;
+use ig_value::Value;
+use ig_wire::{AskFault, Version};
+use std::alloc::Global;
+use std::test::Fail;
+
+const CFG: SessionCfg = SessionCfg {
+    node: 0,
+    nodes: 1,
+    parts: 4,
+};
+
+fn terms_at(version: Version) -> Terms {
+    Terms {
+        version,
+        manner: Manner::of_session(version),
+        cfg: CFG,
+    }
+}
+
+/// What is asked under an identifier, and the frame of its reply.
+type Row = (&'static str, i64, &'static [u8]);
+
+/// A session at 1.0.0: a put, a get, a refused call, a request that doesn't read, a call without memory;
+/// the pages of a scan of five rows by two, and one page too many; another scan, which is closed twice.
+static SESSION: [Row; 12] = [
+    (
+        "done",
+        1,
+        &[12, 0, 0, 0, 1, 0, 0, 0, 0, 0, 0, 0, 0, 0, 0, 0],
+    ),
+    (
+        "found",
+        2,
+        &[
+            17, 0, 0, 0, 2, 0, 0, 0, 0, 0, 0, 0, 0, 0, 0, 0, 3, 2, 0, 0, 0,
+        ],
+    ),
+    (
+        "lost",
+        3,
+        &[
+            37, 0, 0, 0, 3, 0, 0, 0, 0, 0, 0, 0, 232, 3, 0, 0, 9, 20, 0, 0, 0, 99, 97, 99, 104,
+            101, 32, 100, 111, 101, 115, 32, 110, 111, 116, 32, 101, 120, 105, 115, 116,
+        ],
+    ),
+    (
+        "unread",
+        4,
+        &[
+            40, 0, 0, 0, 4, 0, 0, 0, 0, 0, 0, 0, 1, 0, 0, 0, 9, 23, 0, 0, 0, 109, 97, 108, 102,
+            111, 114, 109, 101, 100, 32, 114, 101, 113, 117, 101, 115, 116, 32, 97, 116, 32, 49,
+            52,
+        ],
+    ),
+    (
+        "no memory",
+        5,
+        &[
+            26, 0, 0, 0, 5, 0, 0, 0, 0, 0, 0, 0, 40, 35, 0, 0, 9, 9, 0, 0, 0, 110, 111, 32, 109,
+            101, 109, 111, 114, 121,
+        ],
+    ),
+    (
+        "scan",
+        6,
+        &[
+            45, 0, 0, 0, 6, 0, 0, 0, 0, 0, 0, 0, 0, 0, 0, 0, 1, 0, 0, 0, 0, 0, 0, 0, 2, 0, 0, 0, 3,
+            1, 0, 0, 0, 3, 1, 0, 0, 0, 3, 2, 0, 0, 0, 3, 2, 0, 0, 0, 1,
+        ],
+    ),
+    (
+        "page",
+        7,
+        &[
+            37, 0, 0, 0, 7, 0, 0, 0, 0, 0, 0, 0, 0, 0, 0, 0, 2, 0, 0, 0, 3, 3, 0, 0, 0, 3, 3, 0, 0,
+            0, 3, 4, 0, 0, 0, 3, 4, 0, 0, 0, 1,
+        ],
+    ),
+    (
+        "page",
+        8,
+        &[
+            27, 0, 0, 0, 8, 0, 0, 0, 0, 0, 0, 0, 0, 0, 0, 0, 1, 0, 0, 0, 3, 5, 0, 0, 0, 3, 5, 0, 0,
+            0, 0,
+        ],
+    ),
+    (
+        "page",
+        9,
+        &[
+            40, 0, 0, 0, 9, 0, 0, 0, 0, 0, 0, 0, 243, 3, 0, 0, 9, 23, 0, 0, 0, 114, 101, 115, 111,
+            117, 114, 99, 101, 32, 100, 111, 101, 115, 32, 110, 111, 116, 32, 101, 120, 105, 115,
+            116,
+        ],
+    ),
+    (
+        "scan",
+        10,
+        &[
+            45, 0, 0, 0, 10, 0, 0, 0, 0, 0, 0, 0, 0, 0, 0, 0, 2, 0, 0, 0, 0, 0, 0, 0, 2, 0, 0, 0,
+            3, 1, 0, 0, 0, 3, 1, 0, 0, 0, 3, 2, 0, 0, 0, 3, 2, 0, 0, 0, 1,
+        ],
+    ),
+    (
+        "close",
+        11,
+        &[12, 0, 0, 0, 11, 0, 0, 0, 0, 0, 0, 0, 0, 0, 0, 0],
+    ),
+    (
+        "close",
+        12,
+        &[
+            40, 0, 0, 0, 12, 0, 0, 0, 0, 0, 0, 0, 243, 3, 0, 0, 9, 23, 0, 0, 0, 114, 101, 115, 111,
+            117, 114, 99, 101, 32, 100, 111, 101, 115, 32, 110, 111, 116, 32, 101, 120, 105, 115,
+            116,
+        ],
+    ),
+];
+
+/// A session at 1.4.0: the topology is told once, and not with what is no answer; then it changes.
+static TOLD: [Row; 4] = [
+    (
+        "no memory",
+        1,
+        &[
+            28, 0, 0, 0, 1, 0, 0, 0, 0, 0, 0, 0, 1, 0, 40, 35, 0, 0, 9, 9, 0, 0, 0, 110, 111, 32,
+            109, 101, 109, 111, 114, 121,
+        ],
+    ),
+    (
+        "done",
+        2,
+        &[
+            22, 0, 0, 0, 2, 0, 0, 0, 0, 0, 0, 0, 2, 0, 1, 0, 0, 0, 0, 0, 0, 0, 0, 0, 0, 0,
+        ],
+    ),
+    ("done", 3, &[10, 0, 0, 0, 3, 0, 0, 0, 0, 0, 0, 0, 0, 0]),
+    (
+        "changed",
+        4,
+        &[
+            22, 0, 0, 0, 4, 0, 0, 0, 0, 0, 0, 0, 2, 0, 1, 0, 0, 0, 0, 0, 0, 0, 7, 0, 0, 0,
+        ],
+    ),
+];
+
+/// The frame of the fault `reply too long`.
+static TOO_LONG: [u8; 35] = [
+    31, 0, 0, 0, 1, 0, 0, 0, 0, 0, 0, 0, 1, 0, 0, 0, 9, 14, 0, 0, 0, 114, 101, 112, 108, 121, 32,
+    116, 111, 111, 32, 108, 111, 110, 103,
+];
+
+/// Rows of which each has its number as key and value, from 1 on.
+fn five_rows(alloc: Global) -> Result<Items<Pair>, NoMemory> {
+    let mut rows = Vec::new(alloc);
+    for number in 1..=5 {
+        rows.push(Pair {
+            key: Value::Int(number),
+            value: Value::Int(number),
+        })?;
+    }
+    Ok(Items::new(rows))
+}
+
+/// The reply to what a row asks.
+fn replied(
+    alloc: Global,
+    terms: &Terms,
+    desk: &mut Desk,
+    asks: &str,
+    id: i64,
+) -> Result<ReplyFrame, NoMemory> {
+    let outcome = match asks {
+        "page" => return next_page(terms, desk, id, 1),
+        "close" => return Ok(close(terms, desk, id, 2)),
+        "no memory" => return Ok(lacks_memory(terms, id)),
+        "unread" => return refuse(alloc, terms, id, AskFault::Unread { place: 14 }),
+        "scan" => {
+            let outcome = Outcome::Pairs(five_rows(alloc)?);
+            return answer_scan(alloc, terms, desk, id, 7, 2, Answer { minor: 0, outcome });
+        }
+        "found" => Outcome::Found(Value::Int(2)),
+        "lost" => Outcome::Refused(Why::NoCache),
+        _ => Outcome::Done,
+    };
+    let minor = if asks == "changed" { 7 } else { 0 };
+    answer(
+        alloc,
+        terms,
+        desk,
+        id,
+        &Call::Names,
+        Answer { minor, outcome },
+    )
+}
+
+/// The bytes that a queue shows, by steps of at most this many, which are at least 1. `None` if it shows
+/// more than 65,536 bytes.
+fn shown(alloc: Global, queue: &mut Queue, step: usize) -> Result<Option<Octets>, NoMemory> {
+    let mut bytes = Octets::empty(alloc);
+    for _ in 0..10_000_000 {
+        let waiting = queue.waiting();
+        if waiting.is_empty() {
+            return Ok(Some(bytes));
+        }
+        if waiting.len() > 65_536 {
+            return Ok(None);
+        }
+        let count = if step < waiting.len() {
+            step
+        } else {
+            waiting.len()
+        };
+        bytes.append(&waiting[..count])?;
+        queue.gone(count);
+    }
+    Ok(None)
+}
+
+/// Whether a session's replies, shown after all of them were pushed, are the frames of the rows.
+fn holds(alloc: Global, version: Version, rows: &[Row], step: usize) -> Result<bool, NoMemory> {
+    let terms = terms_at(version);
+    let mut desk = Desk::new(alloc)?;
+    let mut queue = Queue::new(alloc)?;
+    let mut wanted = Octets::empty(alloc);
+    for (asks, id, frame) in rows {
+        queue.push(replied(alloc, &terms, &mut desk, *asks, *id)?)?;
+        wanted.append(*frame)?;
+    }
+    match shown(alloc, &mut queue, step)? {
+        Some(bytes) => Ok(bytes.as_slice() == wanted.as_slice() && queue.is_empty()),
+        None => Ok(false),
+    }
+}
+
+/// The frame of a reply with a list of this many bytes, shown by steps.
+fn shows_bytes(alloc: Global, count: usize, step: usize) -> Result<Option<Octets>, NoMemory> {
+    let mut bytes = Vec::new(alloc);
+    bytes.resize(count, 5)?;
+    let terms = terms_at(Version::V1_0_0);
+    let mut desk = Desk::new(alloc)?;
+    let mut queue = Queue::new(alloc)?;
+    let outcome = Outcome::Found(Value::Bytes(Items::new(bytes)));
+    let frame = answer(
+        alloc,
+        &terms,
+        &mut desk,
+        1,
+        &Call::Names,
+        Answer { minor: 0, outcome },
+    )?;
+    queue.push(frame)?;
+    shown(alloc, &mut queue, step)
+}
+
+/// Whether the bytes are the frame of a reply with a list of this many bytes, all 5.
+fn is_list(alloc: Global, bytes: &[u8], count: usize) -> Result<bool, NoMemory> {
+    let mut list = Vec::new(alloc);
+    list.resize(count, 5)?;
+    let mut wanted = Octets::empty(alloc);
+    wanted.append(&(count as u32 + 17).to_le_bytes())?;
+    wanted.append(&[1, 0, 0, 0, 0, 0, 0, 0, 0, 0, 0, 0])?;
+    encode(alloc, &Value::Bytes(Items::new(list)), &mut wanted)?;
+    Ok(bytes == wanted.as_slice())
+}
+
+#[test]
+fn replies_are_shown_in_order(rt: HostRuntime) -> Result<(), Fail> {
+    let alloc = rt.alloc();
+    assert!(rt; holds(alloc, Version::V1_0_0, &SESSION, 65_536)?);
+    assert!(rt; holds(alloc, Version::V1_0_0, &SESSION, 1)?);
+    assert!(rt; holds(alloc, Version::V1_0_0, &SESSION, 7)?);
+    Ok(())
+}
+
+#[test]
+fn topologies_are_told_once(rt: HostRuntime) -> Result<(), Fail> {
+    let alloc = rt.alloc();
+    assert!(rt; holds(alloc, Version::V1_4_0, &TOLD, 65_536)?);
+    Ok(())
+}
+
+#[test]
+fn long_values_are_shown_in_pieces(rt: HostRuntime) -> Result<(), Fail> {
+    let alloc = rt.alloc();
+    for step in [65_536, 50_000, 4_099] {
+        let bytes = shows_bytes(alloc, 200_000, step)?;
+        let Some(bytes) = bytes else {
+            assert!(rt; false);
+            return Ok(());
+        };
+        assert!(rt; is_list(alloc, bytes.as_slice(), 200_000)?);
+    }
+    Ok(())
+}
+
+#[test]
+fn replies_that_are_too_long_are_faults(rt: HostRuntime) -> Result<(), Fail> {
+    let alloc = rt.alloc();
+    let longest = 8_388_608 - 17;
+    for (count, is_whole) in [(longest, true), (longest + 1, false)] {
+        let Some(bytes) = shows_bytes(alloc, count, 65_536)? else {
+            assert!(rt; false);
+            return Ok(());
+        };
+        assert_eq!(rt; bytes.len() == longest + 21, is_whole);
+        assert_eq!(rt; bytes.as_slice() == &TOO_LONG[..], !is_whole);
+    }
+    Ok(())
+}
