@@ -19,7 +19,7 @@ head_other k x xs e = elim (cases_Bool (has_number k x)) [
   clash : {c : Cursor} → Some c ≡ None → ⊥
   clash h = cc
 
-without_absent : (k : ℤ) (cs : List Cursor) → cursor_at cs k ≡ None → without cs k ≡ cs
+pub without_absent : (k : ℤ) (cs : List Cursor) → cursor_at cs k ≡ None → without cs k ≡ cs
 without_absent k [] e = refl
 without_absent k (x ∷ xs) e =
     let other : (has_number k x ≡ false) × (cursor_at xs k ≡ None) = head_other k x xs e in

@@ -1,7 +1,7 @@
 -- The lengths of replies, and the parts of their frames.
 use Rattle.std.proofs.Common.{◌≡◌, ℕ, ◌+◌, ◌-◌, ◌<◌, ◌≤◌, ℤ, pos, Bool, true, false, List, ◌++◌, length, Option, None, Some, sym, ap, subst, ◌∙◌, refl, arith}
 use Rattle.std.specs.Prelude.{min, nat_le, ◌^◌, if◌then◌else◌}
-use Rattle.std.specs.Int.{w32}
+use Rattle.std.specs.Int.{w16, w32, w64}
 use Rattle.std.proofs.lemmas.Bool.{le-leb, lt-leb, cond-true, cond-false}
 use Rattle.std.proofs.lemmas.List.{append_assoc, length-append}
 use Rattle.ig_base.specs.declared.Topology.{Topology}
@@ -67,23 +67,50 @@ frame_is v reply body_len lead_len is =
 -- a head with a fault of a short text is short
 told_is_short : (flags : Bool) (told : Option Topology) (fault : Fault) → length fault.text < 100 → length (told_bytes flags told (Some fault)) < 200
 told_is_short true None fault short =
-    omega (arith, short, length-append (LE w16 (flag_number false true)) (fault_bytes (Some fault)), length-LE_16 (flag_number false true),
-    length-append (LE w32 fault.status) (string fault.text), length-LE_32 fault.status,
-    length-append (LE w32 (pos (length fault.text))) fault.text, length-LE_32 (pos (length fault.text)))
+    omega (
+      arith,
+      short,
+      length-append (LE w16 (flag_number false true)) (fault_bytes (Some fault)),
+      length-LE_16 (flag_number false true),
+      length-append (LE w32 fault.status) (string fault.text),
+      length-LE_32 fault.status,
+      length-append (LE w32 (pos (length fault.text))) fault.text,
+      length-LE_32 (pos (length fault.text)),
+    )
 told_is_short true (Some t) fault short =
-    omega (arith, short, length-append (LE w16 (flag_number true true)) (topology_bytes (Some t) ++ fault_bytes (Some fault)), length-LE_16 (flag_number true true),
-    length-append (topology_bytes (Some t)) (fault_bytes (Some fault)), length-append (LE w64 t.version) (LE w32 t.minor), length-LE_64 t.version, length-LE_32 t.minor,
-    length-append (LE w32 fault.status) (string fault.text), length-LE_32 fault.status,
-    length-append (LE w32 (pos (length fault.text))) fault.text, length-LE_32 (pos (length fault.text)))
+    omega (
+      arith,
+      short,
+      length-append (LE w16 (flag_number true true)) (topology_bytes (Some t) ++ fault_bytes (Some fault)),
+      length-LE_16 (flag_number true true),
+      length-append (topology_bytes (Some t)) (fault_bytes (Some fault)),
+      length-append (LE w64 t.version) (LE w32 t.minor),
+      length-LE_64 t.version,
+      length-LE_32 t.minor,
+      length-append (LE w32 fault.status) (string fault.text),
+      length-LE_32 fault.status,
+      length-append (LE w32 (pos (length fault.text))) fault.text,
+      length-LE_32 (pos (length fault.text)),
+    )
 told_is_short false told fault short =
-    omega (arith, short, length-append (LE w32 fault.status) (string fault.text), length-LE_32 fault.status,
-    length-append (LE w32 (pos (length fault.text))) fault.text, length-LE_32 (pos (length fault.text)))
+    omega (
+      arith,
+      short,
+      length-append (LE w32 fault.status) (string fault.text),
+      length-LE_32 fault.status,
+      length-append (LE w32 (pos (length fault.text))) fault.text,
+      length-LE_32 (pos (length fault.text)),
+    )
 
 pub too_long_fits : (v : Version) (r : SaidReply) → length (reply_body v (too_long r)) < 1000
 too_long_fits v r =
-    omega (arith, body_length v (too_long r),
-    length-append (LE w64 r.id) (told_bytes (has_flags v) r.told (Some (fault_of reason.ReplyTooLong))), length-LE_64 r.id,
-    told_is_short (has_flags v) r.told (fault_of reason.ReplyTooLong) (text_is_short reason.ReplyTooLong))
+    omega (
+      arith,
+      body_length v (too_long r),
+      length-append (LE w64 r.id) (told_bytes (has_flags v) r.told (Some (fault_of reason.ReplyTooLong))),
+      length-LE_64 r.id,
+      told_is_short (has_flags v) r.told (fault_of reason.ReplyTooLong) (text_is_short reason.ReplyTooLong),
+    )
 
 -- a reply that a frame can hold stays as it is
 pub kept_whole : (v : Version) (r : SaidReply) → length (reply_body v r) ≤ max_body → (fits v r ≡ true) × (shortened v r ≡ r)

@@ -1,6 +1,6 @@
 -- Queues of frames, and the pieces that are shown of them.
 use Rattle.std.proofs.Common.{◌≡◌, refl, ℕ, ◌+◌, ◌-◌, ◌<◌, ◌≤◌, List, [], ◌∷◌, ◌++◌, map, length, take, drop, sym, ap, subst, ◌∙◌, arith}
-use Rattle.std.specs.Prelude.{◌%◌, ◌↔◌, min, nat_lt, Bool, false, true, IsTrue, is_none, Option, None, Some, if◌then◌else◌}
+use Rattle.std.specs.Prelude.{◌%◌, ◌↔◌, min, nat_lt, Bool, false, true, IsTrue, is_none, is_some, Option, None, Some, if◌then◌else◌}
 use Rattle.std.specs.List.{AllByRecursion}
 use Rattle.std.proofs.lemmas.Bool.{le-ltb, lt-ltb, cond-true, cond-false}
 use Rattle.std.proofs.lemmas.List.{length-take, length-drop, map-append}
@@ -181,3 +181,72 @@ none_waits (Some s) piece later b is = (λ e. absurd (clash (sym is ∙ e)), λ 
 pub no_bytes : (xs : List ℕ) → length xs ≡ 0 → xs ≡ []
 no_bytes [] none = refl
 no_bytes (x ∷ xs) none = absurd (omega (arith, none))
+
+-- ---- what the parts are after each step
+
+clash_some : {s : Showing} → Some s ≡ None → ⊥
+clash_some h = cc
+
+-- no frame is shown
+pub none_is : (first : Option Showing) (piece : List ℕ) (later : List Showing) → first ≡ None → piece ≡ [] → IsSpentQueue first later
+    → IsQueue first piece later × (waiting_in first piece later ≡ waiting_spent first later)
+none_is None piece later e empty spent = ((empty, spent), refl)
+none_is (Some s) piece later e empty spent = absurd (clash_some e)
+
+-- the next piece of the frame was taken, and has some bytes
+pub next_is : (s now : Showing) (piece : List ℕ) (later : List Showing) → IsSpentQueue (Some s) later → 0 < length piece
+    → piece ≡ taken_from s → now ≡ record s { gone = s.gone + length piece }
+    → IsQueue (Some now) piece later × (waiting_in (Some now) piece later ≡ waiting_spent (Some s) later)
+next_is s now piece later spent some piece_is now_is =
+    let more : 0 < length (taken_from s) = subst (λ (p : List ℕ). 0 < length p) piece_is some in
+    let queue : IsQueue (Some (record s { gone = s.gone + length piece })) piece later =
+    subst (λ (p : List ℕ). IsQueue (Some (record s { gone = s.gone + length p })) p later) (sym piece_is) (next_queue s later spent more) in (
+      subst (λ (x : Showing). IsQueue (Some x) piece later) (sym now_is) queue,
+      ap (λ (x : Showing). waiting_in (Some x) piece later) now_is
+          ∙ ap (λ (p : List ℕ). waiting_in (Some (record s { gone = s.gone + length p })) p later) piece_is ∙ next_waiting s later more,
+    )
+
+-- the first piece of a frame was taken
+pub begun_queue : (s now : Showing) (piece : List ℕ) → IsFresh s → 0 < length s.frame → piece ≡ taken_from s → now ≡ record s { gone = s.gone + length piece }
+    → (later : List Showing) → AllByRecursion IsFresh later → IsQueue (Some now) piece later
+begun_queue s now piece fresh some piece_is now_is later rest_fresh =
+    let queue : IsQueue (Some (record s { gone = s.gone + length piece })) piece later =
+    subst (λ (p : List ℕ). IsQueue (Some (record s { gone = s.gone + length p })) p later) (sym piece_is) (first_queue s later fresh some rest_fresh) in
+    subst (λ (x : Showing). IsQueue (Some x) piece later) (sym now_is) queue
+
+pub begun_waiting : (s now : Showing) (piece : List ℕ) → IsFresh s → piece ≡ taken_from s → now ≡ record s { gone = s.gone + length piece }
+    → (later : List Showing) → waiting_in (Some now) piece later ≡ record { frames = s.frame ∷ frames_of later; gone = 0 }
+begun_waiting s now piece fresh piece_is now_is later =
+    ap (λ (x : Showing). waiting_in (Some x) piece later) now_is
+    ∙ ap (λ (p : List ℕ). waiting_in (Some (record s { gone = s.gone + length p })) p later) piece_is ∙ first_waiting s later fresh
+
+-- the first frame is gone, and another one waits
+pub over_is : (s next : Showing) (later more : List Showing) → IsSpentQueue (Some s) later → later ≡ next ∷ more → taken_from s ≡ []
+    → (IsFresh next × AllByRecursion IsFresh more) × (waiting_spent (Some s) later ≡ record { frames = next.frame ∷ frames_of more; gone = 0 })
+over_is s next later more spent is none =
+    let fresh : AllByRecursion IsFresh (next ∷ more) = subst (AllByRecursion IsFresh) is spent.1 in (
+      (fresh.0, fresh.1),
+      over_waiting s later spent.0 none ∙ ap (λ (l : List Showing). record { frames = frames_of l; gone = 0 }) is,
+    )
+
+-- the first frame is gone, and no other waits
+pub last_is : (s : Showing) (later : List Showing) → IsSpentQueue (Some s) later → later ≡ [] → taken_from s ≡ []
+    → waiting_spent (Some s) later ≡ waiting_none
+last_is s later spent is none =
+    over_waiting s later spent.0 none ∙ ap (λ (l : List Showing). record { frames = frames_of l; gone = 0 }) is
+
+-- a frame was added after others
+pub pushed_is : (first : Option Showing) (piece : List ℕ) (later : List Showing) (s : Showing) → is_some first ≡ true → IsQueue first piece later → IsFresh s
+    → IsQueue first piece (later ++ s ∷ []) × (waiting_in first piece (later ++ s ∷ []) ≡ after_push (waiting_in first piece later) s.frame)
+pushed_is None piece later s e is fresh = absurd (clash e) where
+  clash : false ≡ true → ⊥
+  clash h = cc
+pushed_is (Some x) piece later s e is fresh = (push_queue x piece later s is fresh, push_waiting x piece later s)
+
+-- none waits before the first one
+pub unbegun : (first : Option Showing) (piece : List ℕ) (later : List Showing) → is_some first ≡ false → IsQueue first piece later
+    → (later ≡ []) × (waiting_in first piece later ≡ waiting_none)
+unbegun None piece later e is = (is.1, refl)
+unbegun (Some x) piece later e is = absurd (clash e) where
+  clash : true ≡ false → ⊥
+  clash h = cc

@@ -14,6 +14,7 @@ use Rattle.ig_deals.specs.Faults.{fault_of}
 use Rattle.ig_deals.specs.Replies.{Fails}
 use Rattle.ig_deals.specs.Turns.{Terms, telling, answers, page_content, first_page, scanned}
 use Rattle.ig_deals.proofs.CursorLemmas.{found_has, without_none, without_fewer}
+use Rattle.ig_deals.proofs.TakeLemmas.{without_absent}
 
 -- ---- what may be told
 
@@ -80,3 +81,10 @@ pub one_opens : (desk : Desk) (opens : Bool) (cursor : Cursor) → opens ≡ tru
 one_opens desk opens cursor e =
     ap (λ (cs : List Cursor). record desk { cursors = cs })
     (ap (λ (l : List Cursor). desk.cursors ++ l) (sym (cond-true opens (cursor ∷ []) [] e)))
+
+-- ---- requests on an open cursor
+
+-- no cursor has the number: the desk stays as it is
+pub none_taken : (desk now : Desk) (k : ℤ) → cursor_at desk.cursors k ≡ None → now ≡ record desk { cursors = without desk.cursors k } → now ≡ desk
+none_taken desk now k none is =
+    is ∙ ap (λ (cs : List Cursor). record desk { cursors = cs }) (without_absent k desk.cursors none)

@@ -88,9 +88,16 @@ fn map_for(
     ensures { IfOk result (λ map. map
         ≡ served_map told cfg.nodes cfg.parts (caches_in call.now) pairs) }
 {
-    let caches: &[i32] = match call {
+    let caches = caches_in(call);
+    served_map(alloc, told, cfg.nodes, cfg.parts, caches, pairs.as_slice())
+}
+
+/// The caches whose partition maps a call asks for.
+fn caches_in(call: &Call) -> &[i32]
+    ensures { result.now ≡ caches_in call.now }
+{
+    match call {
         Call::Affinity { caches } => caches.as_slice(),
         _ => &[],
-    };
-    served_map(alloc, told, cfg.nodes, cfg.parts, caches, pairs.as_slice())
+    }
 }

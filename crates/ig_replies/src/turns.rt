@@ -177,7 +177,7 @@ fn show_first(
     requires room { IsTrue more → length desk.old.cursors < most_cursors }
     ensures ok { IfOk result (λ frame. IsTurned (terms_of terms.now)
         (first_page (terms_of terms.now) desk.old minor cursor
-            (telling (terms_of terms.now) desk.old id minor (page_content (Some (pos cursor.number)) cursor)))
+        (telling (terms_of terms.now) desk.old id minor (page_content (Some (pos cursor.number)) cursor)))
         frame desk.new) }
     ensures err { OnErr result (desk.new ≡ desk.old) }
 {

@@ -10,7 +10,7 @@ pub returns-clause-page : goal.returns-clause-page
 returns-clause-page c =
     let rows : List Pair = c.self.inside.left.items in
     let kept : c.saturating_sub-kept.result ≡ length rows - c.self.inside.page = grind (arith, common_steps) in
-    c.reverse.ensures.items ∙ ap reverse (c.in_ok-rows.ensures.tail ∙ ap (λ (k : ℕ). drop k rows) kept)
+    c.new.ensures ∙ c.reverse.ensures.items ∙ ap reverse (c.in_ok-rows.ensures.tail ∙ ap (λ (k : ℕ). drop k rows) kept)
     ∙ sym (take-reverse c.self.inside.page rows) ∙ ap page_of c.self.view_is
 
 pub returns-clause-left : goal.returns-clause-left
