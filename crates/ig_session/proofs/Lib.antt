@@ -8,6 +8,13 @@ pub mod AnswerLemmas
 pub mod WriteLemmas
 pub mod StepLemmas
 pub mod EndLemmas
+pub mod PlaceLemmas
+pub mod ApartLemmas
+pub mod OutLemmas
+pub mod AheadLemmas
+pub mod DueLemmas
+pub mod AheadStepLemmas
+pub mod AheadAnswerLemmas
 pub mod TakeLemmas
 pub mod SinceLemmas
 pub mod LoopLemmas
