@@ -41,7 +41,8 @@ use Rattle.ig_session.proofs.PlaceLemmas.{at_end, at_other, at_first, due_in, du
 use Rattle.ig_session.proofs.OutLemmas.{calls_among, out_with, found_out, others_out, IsOut, is_out, deals_before, deals_after, number_is, dealt_out, dealt_given, handed_given, length_given}
 use Rattle.ig_session.proofs.AheadLemmas.{ahead_terms, frames_at, own_frame, frame_there, frames_beside, frames_first, frame_last, one_more_shown, open_shown_more, same_shown}
 use Rattle.ig_session.proofs.DueLemmas.{all_due, Beside, InFirst, Itself, InLater, beside}
-use Rattle.ig_session.proofs.AheadStepLemmas.{StandsBy, stands_by, open_in_ahead, in_open_ahead, each_open, open_each, none_given}
+use Rattle.ig_session.proofs.StandsByLemmas.{stands_by, open_in_ahead, in_open_ahead, each_open, open_each}
+use Rattle.ig_session.proofs.AheadStepLemmas.{none_given}
 
 apart_of : (request : Result Request Fault) → is_at_cursors request ≡ false → IsApart request
 apart_of (Ok (Run call)) e = tt

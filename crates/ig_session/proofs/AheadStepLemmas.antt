@@ -1,25 +1,16 @@
 -- One step keeps what a session stands for whose calls are answered in any order.
-use Rattle.std.proofs.Common.{◌≡◌, ◌⊎◌, inl, inr, ℕ, zero, suc, ◌+◌, ◌<◌, ◌≤◌, List, [], ◌∷◌, ◌++◌, map, length, Option, None, Some, Result, Ok, Err, refl, sym, ap, ◌∙◌, subst, arith, append-nil, append_assoc, length-append}
-use Rattle.std.specs.Prelude.{◌↔◌, ◌&&◌, ◌||◌, Bool, true, false, Contains, slice_get, nat_le, if◌then◌else◌}
+use Rattle.std.proofs.Common.{◌≡◌, inl, inr, ℕ, ◌+◌, ◌≤◌, List, [], ◌∷◌, ◌++◌, length, Option, None, Some, Result, Ok, Err, refl, sym, ap, ◌∙◌, subst, arith, append-nil, length-append}
+use Rattle.std.specs.Prelude.{◌&&◌, Bool, true, false, Contains, slice_get, nat_le, if◌then◌else◌}
 use Rattle.std.specs.List.{cons_option, list_any}
 use Rattle.std.proofs.lemmas.List.{length-map, map-append}
 use Rattle.std.proofs.lemmas.List.Elements.{Contains-append_left, Contains-push}
-use Rattle.ig_base.specs.Numbers.{AreBytes}
-use Rattle.ig_base.specs.Frames.{client, least_after}
-use Rattle.ig_wire.specs.declared.version.Version.{Version}
 use Rattle.ig_wire.specs.declared.head.Fault.{Fault}
-use Rattle.ig_wire.specs.declared.hello.Hello.{Hello}
-use Rattle.ig_wire.specs.declared.hello.HelloFault.{HelloFault}
-use Rattle.ig_frame.specs.Streams.{Stream, HandedOut}
 use Rattle.ig_caches.specs.declared.call.Call.{Call}
 use Rattle.ig_caches.specs.declared.request.Request.{Request}
 use Rattle.ig_caches.specs.declared.request.Request.TheVariants.{Run, Scan, NextPage, Close}
-use Rattle.ig_deals.specs.declared.cfg.SessionCfg.{SessionCfg}
-use Rattle.ig_deals.specs.declared.end.SessionEnd.{SessionEnd}
 use Rattle.ig_deals.specs.declared.end.SessionEnd.TheVariants as ends
-use Rattle.ig_deals.specs.Hellos.{Greeting, greeting_of, hello_frame}
 use Rattle.ig_deals.specs.Asks.{Asked, asked_in, asks}
-use Rattle.ig_deals.specs.Deals.{Got, Deal, call_for, calls}
+use Rattle.ig_deals.specs.Deals.{Deal, call_for, calls}
 use Rattle.ig_deals.specs.Desk.{Desk, fresh_desk}
 use Rattle.ig_deals.specs.Telling.{crew_manner}
 use Rattle.ig_deals.specs.Replies.{reply_frame}
@@ -30,152 +21,26 @@ use Rattle.ig_deals.proofs.DealLemmas.{calls-append}
 use Rattle.ig_deals.proofs.ReplyLemmas.{replies-append}
 use Rattle.ig_replies.specs.declared.terms.Terms.{Terms as HeldTerms}
 use Rattle.ig_replies.specs.RunTerms.{terms_of}
-use Rattle.ig_replies.specs.Showing.{Waiting, bytes_left, after_push}
-use Rattle.ig_session.specs.declared.phase.Phase.{Phase}
-use Rattle.ig_session.specs.declared.phase.Phase.TheVariants.{BeforeHello, Open, Refused, OutOfMemory}
-use Rattle.ig_session.specs.declared.step.Ahead.{Ahead}
+use Rattle.ig_session.specs.declared.phase.Phase.TheVariants.{Open}
 use Rattle.ig_session.specs.declared.step.Ahead.TheVariants as steps
 use Rattle.ig_session.specs.declared.awaited.Awaited.{Awaited}
 use Rattle.ig_session.specs.Awaiting.{awaited_of, is_scan}
 use Rattle.ig_session.specs.States.{State}
 use Rattle.ig_session.specs.Soundness.{IsSound}
 use Rattle.ig_session.specs.Comings.{Coming, Replies, Stops, Misses, Greets, Asks, coming}
-use Rattle.ig_session.specs.Steps.{passed, greeting_frame, opened, refused, handed_out, settled}
-use Rattle.ig_session.specs.StepsAhead.{is_at_cursors, waits_for_all, has_out, is_full, is_held_up, asked_ahead, step_on, step_ahead_to, step_ahead}
-use Rattle.ig_session.specs.StandsAhead.{HandedAhead, given_so_far, deal_ahead, dealt_ahead, out_among, is_due, IsDue, LooksAtCursors, IsOrderAfter, IsOrder, AreScansAlone, HasEach, frames_ahead, out_ahead, IsOpenAhead, IsInAhead, StandsAhead}
+use Rattle.ig_session.specs.Steps.{opened, refused, handed_out, settled}
+use Rattle.ig_session.specs.StepsAhead.{is_at_cursors, has_out, is_full, is_held_up, asked_ahead, step_on, step_ahead_to, step_ahead}
+use Rattle.ig_session.specs.StandsAhead.{HandedAhead, given_so_far, deal_ahead, dealt_ahead, out_among, is_due, IsDue, LooksAtCursors, IsOrder, AreScansAlone, out_ahead, IsOpenAhead, StandsAhead}
 use Rattle.ig_session.specs.LawsAhead.{StandsAfterAhead}
-use Rattle.ig_session.proofs.ComingLemmas.{HelloIn, RequestIn, comes_as, hello_comes, request_comes}
+use Rattle.ig_session.proofs.ComingLemmas.{RequestIn, request_comes}
 use Rattle.ig_session.proofs.StandLemmas.{Reads, reads_body, asks_one}
-use Rattle.ig_session.proofs.GreetLemmas.{hello_asks}
 use Rattle.ig_session.proofs.AskLemmas.{least_open}
 use Rattle.ig_session.proofs.PlaceLemmas.{at_end, at_first, due_in, due_within, order_more, order_for, still_due}
 use Rattle.ig_session.proofs.OutLemmas.{dealt_ahead-append, given_ahead, calls_dealt, calls_among, out_among-append, out_one, out_none}
 use Rattle.ig_session.proofs.AheadLemmas.{ahead_terms, frames_at, frames_first, frame_last, one_more_shown, open_shown, open_shown_more, same_shown}
 use Rattle.ig_session.proofs.DueLemmas.{neither, first_false, none_out, all_due, due_push, no_scan_out, at_last}
-
--- ---- the whole, by its deals
-
--- a session stands for these bodies, with these deals
-pub record StandsBy (s : State) (input : List ℕ) (ran : List HandedAhead) (order output : List ℕ) (bodies : List (List ℕ)) (deals : List Deal) : Type 0 where
-  pub read : HandedOut client s.stream input bodies
-  pub are_bytes : AreBytes s.stream.rest
-  pub handed : map (λ (r : HandedAhead). r.call) ran ≡ calls (asks bodies)
-  pub dealt : dealt_ahead (asks bodies) (given_so_far ran) ≡ deals
-  pub out : s.out ≡ out_among 0 deals
-  pub count : s.handed ≡ length ran
-  pub phase : IsInAhead s.phase s.cfg s.desk bodies deals
-  pub alone : AreScansAlone deals
-  pub order_is : IsOrder deals order
-  pub each : HasEach s.phase deals order
-  pub shows : output ++ bytes_left s.waiting ≡ joined (out_ahead s.cfg bodies deals order)
-
-pub stands_by : (s : State) (input : List ℕ) (ran : List HandedAhead) (order output : List ℕ) (bodies : List (List ℕ)) (deals : List Deal)
-    → StandsBy s input ran order output bodies deals → StandsAhead s input ran order output
-stands_by s input ran order output bodies deals by = record {
-  bodies = bodies;
-  read = by.read;
-  are_bytes = by.are_bytes;
-  handed_out = by.handed;
-  out = subst (λ (l : List Deal). s.out ≡ out_among 0 l) (sym by.dealt) by.out;
-  count = by.count;
-  phase = subst (λ (l : List Deal). IsInAhead s.phase s.cfg s.desk bodies l) (sym by.dealt) by.phase;
-  alone = subst AreScansAlone (sym by.dealt) by.alone;
-  order_is = subst (λ (l : List Deal). IsOrder l order) (sym by.dealt) by.order_is;
-  each = subst (λ (l : List Deal). HasEach s.phase l order) (sym by.dealt) by.each;
-  shows = subst (λ (l : List Deal). output ++ bytes_left s.waiting ≡ joined (out_ahead s.cfg bodies l order)) (sym by.dealt) by.shows;
-}
-
--- ---- phases
-
-pub open_in_ahead : (phase : Phase) (terms : HeldTerms) (cfg : SessionCfg) (desk : Desk) (bodies : List (List ℕ)) (deals : List Deal) → phase ≡ Open terms
-    → IsInAhead phase cfg desk bodies deals → IsOpenAhead (terms_of terms) cfg desk bodies deals
-open_in_ahead phase terms cfg desk bodies deals is h = subst (λ (p : Phase). IsInAhead p cfg desk bodies deals) is h
-
-pub in_open_ahead : (phase : Phase) (terms : HeldTerms) (cfg : SessionCfg) (desk : Desk) (bodies : List (List ℕ)) (deals : List Deal) → phase ≡ Open terms
-    → IsOpenAhead (terms_of terms) cfg desk bodies deals → IsInAhead phase cfg desk bodies deals
-in_open_ahead phase terms cfg desk bodies deals is h = subst (λ (p : Phase). IsInAhead p cfg desk bodies deals) (sym is) h
-
-pub each_open : (phase : Phase) (terms : HeldTerms) (deals : List Deal) (order : List ℕ) → phase ≡ Open terms → HasEach phase deals order
-    → (place : ℕ) → IsDue (slice_get deals place) → Contains order place
-each_open phase terms deals order is h = subst (λ (p : Phase). HasEach p deals order) is h
-
-pub open_each : (phase : Phase) (terms : HeldTerms) (deals : List Deal) (order : List ℕ) → phase ≡ Open terms
-    → ((place : ℕ) → IsDue (slice_get deals place) → Contains order place) → HasEach phase deals order
-open_each phase terms deals order is h = subst (λ (p : Phase). HasEach p deals order) (sym is) h
-
--- ---- the hello
-
-no_body : (phase : Phase) (cfg : SessionCfg) (desk : Desk) (bodies : List (List ℕ)) (deals : List Deal) → phase ≡ BeforeHello → IsInAhead phase cfg desk bodies deals → (bodies ≡ []) × (desk ≡ fresh_desk)
-no_body phase cfg desk bodies deals is h = subst (λ (p : Phase). IsInAhead p cfg desk bodies deals) is h
-
-no_order : (order : List ℕ) → IsOrder [] order → order ≡ []
-no_order [] is = refl
-no_order (place ∷ order) is = absurd is.0.due
-
-module _ (s : State) (input : List ℕ) (ran : List HandedAhead) (order output : List ℕ) (greeting : Greeting) (sound : IsSound s) (comes : coming s ≡ Greets greeting) (stood : StandsAhead s input ran order output) where
-  abbrev at : HelloIn s s.phase greeting
-  at = hello_comes s greeting comes
-
-  before : (stood.bodies ≡ []) × (s.desk ≡ fresh_desk)
-  before = no_body s.phase s.cfg s.desk stood.bodies (dealt_ahead (asks stood.bodies) (given_so_far ran)) at.before stood.phase
-
-  none_dealt : dealt_ahead (asks stood.bodies) (given_so_far ran) ≡ []
-  none_dealt = ap (λ (l : List (List ℕ)). dealt_ahead (asks l) (given_so_far ran)) before.0
-
-  reads : Reads s input (at.body ∷ [])
-  reads = subst (λ (l : List (List ℕ)). Reads s input (l ++ at.body ∷ [])) before.0
-      (reads_body s input stood.bodies at.body at.rest BeforeHello at.before sound.limit (ap (least_after client) (sym before.0)) stood.are_bytes stood.read at.found_is)
-
-  none_asked : asks (at.body ∷ []) ≡ []
-  none_asked = hello_asks at.body greeting at.greets
-
-  none_ordered : order ≡ []
-  none_ordered = no_order order (subst (λ (l : List Deal). IsOrder l order) none_dealt stood.order_is)
-
-  -- nothing was shown before, and the reply to the hello is all that is shown now
-  shows : output ++ bytes_left (after_push s.waiting (greeting_frame s.cfg greeting)) ≡ joined (out_ahead s.cfg (at.body ∷ []) [] order)
-  shows = one_more_shown [] (out_ahead s.cfg (at.body ∷ []) [] order) s.waiting (greeting_frame s.cfg greeting) output
-      (ap (out_ahead s.cfg (at.body ∷ []) []) none_ordered ∙ hello_alone (greeting_of at.body) ∙ ap (λ (g : Greeting). greeting_frame s.cfg g ∷ []) at.greets)
-      (stood.shows ∙ ap (λ (l : List (List ℕ)). joined (out_ahead s.cfg l (dealt_ahead (asks stood.bodies) (given_so_far ran)) order)) before.0) where
-        hello_alone : (g : Greeting) → hello_frame s.cfg at.body ∷ frames_ahead s.cfg g [] [] ≡ hello_frame s.cfg at.body ∷ []
-        hello_alone (Ok accepted) = refl
-        hello_alone (Err fault) = refl
-
-  -- whichever phase the hello leads to
-  greeted_stands : (now : State) → now.stream ≡ (passed s).stream → now.out ≡ s.out → now.handed ≡ s.handed → now.cfg ≡ s.cfg → now.waiting ≡ after_push s.waiting (greeting_frame s.cfg greeting)
-      → IsInAhead now.phase now.cfg now.desk (at.body ∷ []) [] → HasEach now.phase [] order → StandsAhead now input ran order output
-  greeted_stands now stream out handed cfg waiting phase each = stands_by now input ran order output (at.body ∷ []) [] (record {
-    read = subst (λ (t : Stream). HandedOut client t input (at.body ∷ [])) (sym stream) reads.read;
-    are_bytes = subst (λ (t : Stream). AreBytes t.rest) (sym stream) reads.are_bytes;
-    handed = stood.handed_out ∙ ap (λ (l : List (List ℕ)). calls (asks l)) before.0 ∙ ap calls (sym none_asked);
-    dealt = ap (λ (l : List Asked). dealt_ahead l (given_so_far ran)) none_asked;
-    out = out ∙ stood.out ∙ ap (out_among 0) none_dealt;
-    count = handed ∙ stood.count;
-    phase = phase;
-    alone = λ first later deal e looks due. absurd (no_deal first later deal e);
-    order_is = subst (λ (l : List Deal). IsOrder l order) none_dealt stood.order_is;
-    each = each;
-    shows = ap (λ (w : Waiting). output ++ bytes_left w) waiting ∙ shows ∙ ap (λ (c : SessionCfg). joined (out_ahead c (at.body ∷ []) [] order)) (sym cfg);
-  }) where
-    no_deal : (first later : List Deal) (deal : Deal) → [] ≡ first ++ deal ∷ later → ⊥
-    no_deal [] later deal e = cc
-    no_deal (d ∷ first) later deal e = cc
-
-  pub opened_stands_ahead : (accepted : Hello) → greeting ≡ Ok accepted → StandsAhead (opened accepted.version (crew_manner accepted.version) s) input ran order output
-  opened_stands_ahead accepted is = greeted_stands (opened accepted.version (crew_manner accepted.version) s) refl refl refl refl
-      (ap (λ (g : Greeting). after_push s.waiting (greeting_frame s.cfg g)) (sym is)) (record {
-        hello = at.body;
-        requests = [];
-        bodies_are = refl;
-        accepted = accepted;
-        greets = at.greets ∙ is;
-        terms_are = refl;
-        desk_is = before.1;
-      }) (λ place due. absurd due)
-
-  pub refused_stands_ahead : (fault : HelloFault) → greeting ≡ Err fault → StandsAhead (refused fault s) input ran order output
-  refused_stands_ahead fault is = greeted_stands (refused fault s) refl refl refl refl
-      (ap (λ (g : Greeting). after_push s.waiting (greeting_frame s.cfg g)) (sym is)) (at.body, refl, at.greets ∙ is) (λ place due. absurd due)
+use Rattle.ig_session.proofs.StandsByLemmas.{StandsBy, stands_by, open_in_ahead, in_open_ahead, each_open, open_each}
+use Rattle.ig_session.proofs.AheadGreetLemmas.{opened_stands_ahead, refused_stands_ahead}
 
 -- ---- requests
 

@@ -13,6 +13,8 @@ pub mod ApartLemmas
 pub mod OutLemmas
 pub mod AheadLemmas
 pub mod DueLemmas
+pub mod StandsByLemmas
+pub mod AheadGreetLemmas
 pub mod AheadStepLemmas
 pub mod AheadAnswerLemmas
 pub mod TakeLemmas
