@@ -91,9 +91,10 @@ left_when (frame ∷ others) gone n le =
           ∙ take-append-drop n (drop gone frame)
           )
       | inr over ↦
+          let all : length (drop gone frame) ≤ n = omega (arith, over, length-drop gone frame) in
           let goes = cond-false (nat_lt (gone + n) (length frame)) (record { frames = frame ∷ others; gone = gone + n }) (record { frames = others; gone = 0 }) (le-ltb (gone + n) (length frame) over) in
           ap (λ (w : Waiting). take n (piece_at frame gone) ++ bytes_left w) goes
-          ∙ ap (λ (l : List ℕ). l ++ left_of others 0) (piece ∙ take_all n (drop gone frame) (omega (arith, over, length-drop gone frame)))
+          ∙ ap (λ (l : List ℕ). l ++ left_of others 0) (piece ∙ take_all n (drop gone frame) all)
           ∙ ap (λ (l : List ℕ). drop gone frame ++ l) (none_gone others)
     ] where
       none_gone : (l : List (List ℕ)) → left_of l 0 ≡ joined l
