@@ -1,13 +1,12 @@
 -- An answer keeps what a session stands for whose calls are answered in any order.
-use Rattle.std.proofs.Common.{◌≡◌, ◌⊎◌, inl, inr, ℕ, zero, suc, ◌+◌, ◌<◌, ◌≤◌, List, [], ◌∷◌, ◌++◌, map, length, Option, None, Some, Result, Ok, Err, refl, sym, ap, ◌∙◌, subst, arith, append-nil, append_assoc, length-append}
-use Rattle.std.specs.Prelude.{◌↔◌, Bool, true, false, Contains, slice_get}
+use Rattle.std.proofs.Common.{◌≡◌, ◌⊎◌, inl, inr, ℕ, suc, ◌<◌, ◌≤◌, List, [], ◌∷◌, ◌++◌, length, Option, None, Some, Result, Ok, Err, refl, sym, ap, ◌∙◌, subst, arith, append-nil, append_assoc, length-append}
+use Rattle.std.specs.Prelude.{Bool, true, false, Contains, slice_get}
 use Rattle.std.proofs.lemmas.Bool.{cases_eq, cases_lt}
 use Rattle.std.proofs.lemmas.List.Elements.{Contains-append_left, Contains-push}
 use Rattle.ig_base.specs.Numbers.{AreBytes}
 use Rattle.ig_base.specs.Frames.{client}
 use Rattle.ig_wire.specs.declared.version.Version.{Version}
 use Rattle.ig_wire.specs.declared.head.Fault.{Fault}
-use Rattle.ig_wire.specs.declared.hello.HelloFault.{HelloFault}
 use Rattle.ig_frame.specs.Streams.{Stream, HandedOut}
 use Rattle.ig_caches.specs.declared.call.Call.{Call}
 use Rattle.ig_caches.specs.declared.request.Request.{Request}
@@ -15,7 +14,7 @@ use Rattle.ig_caches.specs.declared.request.Request.TheVariants.{Run, Scan, Next
 use Rattle.ig_deals.specs.declared.cfg.SessionCfg.{SessionCfg}
 use Rattle.ig_deals.specs.Hellos.{Greeting}
 use Rattle.ig_deals.specs.Asks.{Asked, asks_after, asks}
-use Rattle.ig_deals.specs.Deals.{Got, Deal, call_for, calls}
+use Rattle.ig_deals.specs.Deals.{Got, Deal, call_for}
 use Rattle.ig_deals.specs.Desk.{Desk, fresh_desk}
 use Rattle.ig_deals.specs.Replies.{reply_frame}
 use Rattle.ig_deals.specs.Turns.{Terms, Turn, turn}
@@ -25,7 +24,7 @@ use Rattle.ig_deals.specs.Laws.{IsApart}
 use Rattle.ig_deals.proofs.ReplyLemmas.{replies-append}
 use Rattle.ig_replies.specs.declared.terms.Terms.{Terms as HeldTerms}
 use Rattle.ig_replies.specs.RunTerms.{terms_of}
-use Rattle.ig_replies.specs.Showing.{Waiting, bytes_left, after_push}
+use Rattle.ig_replies.specs.Showing.{Waiting, bytes_left}
 use Rattle.ig_session.specs.declared.phase.Phase.{Phase}
 use Rattle.ig_session.specs.declared.phase.Phase.TheVariants.{BeforeHello, Open, Refused, OutOfMemory}
 use Rattle.ig_session.specs.declared.awaited.Awaited.{Awaited}
@@ -33,14 +32,14 @@ use Rattle.ig_session.specs.Awaiting.{awaited_of, deal_of, awaited_at, without_n
 use Rattle.ig_session.specs.States.{State}
 use Rattle.ig_session.specs.Steps.{settled_in, answered_at, IsSpent, Lacks}
 use Rattle.ig_session.specs.StepsAhead.{is_at_cursors, answered_nth}
-use Rattle.ig_session.specs.StandsAhead.{HandedAhead, given_so_far, dealt_ahead, out_next, out_among, is_due, IsDue, LooksAtCursors, IsOrder, AreScansAlone, HasEach, out_ahead, IsOpenAhead, IsInAhead, StandsAhead}
+use Rattle.ig_session.specs.StandsAhead.{HandedAhead, given_so_far, dealt_ahead, out_among, is_due, IsDue, LooksAtCursors, IsOrder, AreScansAlone, HasEach, out_ahead, IsOpenAhead, IsInAhead, StandsAhead}
 use Rattle.ig_session.specs.LawsAhead.{with_got}
 use Rattle.ig_session.proofs.KeptLemmas.{kept_turn}
-use Rattle.ig_session.proofs.ApartLemmas.{left_at, apart_turn, desk_apart, crew_tells}
+use Rattle.ig_session.proofs.ApartLemmas.{apart_turn, desk_apart, crew_tells}
 use Rattle.ig_session.proofs.PlaceLemmas.{at_end, at_other, at_first, due_in, due_within, order_more, order_for, still_due}
 use Rattle.ig_session.proofs.OutLemmas.{calls_among, out_with, found_out, others_out, IsOut, is_out, deals_before, deals_after, number_is, dealt_out, dealt_given, handed_given, length_given}
-use Rattle.ig_session.proofs.AheadLemmas.{ahead_terms, frames_at, own_frame, frame_there, frames_beside, frames_first, frame_last, one_more_shown, open_shown_more, same_shown}
-use Rattle.ig_session.proofs.DueLemmas.{all_due, Beside, InFirst, Itself, InLater, beside}
+use Rattle.ig_session.proofs.AheadLemmas.{ahead_terms, frames_at, frame_there, frames_beside, frames_first, frame_last, one_more_shown, open_shown_more, same_shown}
+use Rattle.ig_session.proofs.DueLemmas.{all_due, InFirst, Itself, InLater, beside}
 use Rattle.ig_session.proofs.StandsByLemmas.{stands_by, open_in_ahead, in_open_ahead, each_open, open_each}
 use Rattle.ig_session.proofs.AheadStepLemmas.{none_given}
 

@@ -1,5 +1,5 @@
 -- Reading the hello keeps what a session stands for whose calls are answered in any order.
-use Rattle.std.proofs.Common.{◌≡◌, ℕ, ◌+◌, List, [], ◌∷◌, ◌++◌, Ok, Err, refl, sym, ap, ◌∙◌, subst}
+use Rattle.std.proofs.Common.{◌≡◌, ℕ, List, [], ◌∷◌, ◌++◌, Ok, Err, refl, sym, ap, ◌∙◌, subst}
 use Rattle.ig_base.specs.Numbers.{AreBytes}
 use Rattle.ig_base.specs.Frames.{client, least_after}
 use Rattle.ig_wire.specs.declared.hello.Hello.{Hello}
@@ -18,7 +18,7 @@ use Rattle.ig_session.specs.declared.phase.Phase.TheVariants.{BeforeHello}
 use Rattle.ig_session.specs.States.{State}
 use Rattle.ig_session.specs.Soundness.{IsSound}
 use Rattle.ig_session.specs.Comings.{Greets, coming}
-use Rattle.ig_session.specs.Steps.{passed, greeting_frame, opened, refused, handed_out}
+use Rattle.ig_session.specs.Steps.{passed, greeting_frame, opened, refused}
 use Rattle.ig_session.specs.StandsAhead.{HandedAhead, given_so_far, dealt_ahead, out_among, IsOrder, HasEach, frames_ahead, out_ahead, IsInAhead, StandsAhead}
 use Rattle.ig_session.proofs.ComingLemmas.{HelloIn, hello_comes}
 use Rattle.ig_session.proofs.StandLemmas.{Reads, reads_body}

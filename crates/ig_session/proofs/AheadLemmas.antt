@@ -1,5 +1,5 @@
 -- What each step keeps of what a session stands for whose calls are answered in any order: the input and the output.
-use Rattle.std.proofs.Common.{◌≡◌, ◌≢◌, inl, inr, ℕ, zero, suc, ◌+◌, ◌<◌, ◌≤◌, List, [], ◌∷◌, ◌++◌, map, length, take, drop, Option, None, Some, Result, Ok, Err, refl, sym, ap, ◌∙◌, subst, arith, append-nil, append_assoc}
+use Rattle.std.proofs.Common.{◌≡◌, inl, inr, ℕ, ◌+◌, ◌<◌, ◌≤◌, List, [], ◌∷◌, ◌++◌, map, length, take, drop, Option, Some, Ok, Err, refl, sym, ap, ◌∙◌, arith, append-nil, append_assoc}
 use Rattle.std.specs.Prelude.{Contains, slice_get, min, nat_lt}
 use Rattle.std.proofs.lemmas.Bool.{le-ltb, lt-ltb, cond-true, cond-false, cases_lt}
 use Rattle.std.proofs.lemmas.List.{length-map, length-take, length-drop, take-take, take_all, take-append-drop, drop-drop, map-append}
@@ -8,28 +8,26 @@ use Rattle.ig_base.specs.Frames.{client}
 use Rattle.ig_base.proofs.FrameLemmas.{Begins-start, Begins-more, append_bytes}
 use Rattle.ig_wire.specs.declared.version.Version.{Version}
 use Rattle.ig_wire.specs.declared.hello.Hello.{Hello}
-use Rattle.ig_frame.specs.Streams.{Stream, HandedOut}
 use Rattle.ig_deals.specs.declared.cfg.SessionCfg.{SessionCfg}
-use Rattle.ig_deals.specs.declared.manner.Manner.TheVariants.{AtChanges}
 use Rattle.ig_deals.specs.Hellos.{Greeting, greeting_of, hello_frame}
 use Rattle.ig_deals.specs.Asks.{Asked}
 use Rattle.ig_deals.specs.Deals.{Got, Deal}
 use Rattle.ig_deals.specs.Desk.{Desk, fresh_desk}
 use Rattle.ig_deals.specs.Telling.{crew_manner}
-use Rattle.ig_deals.specs.Replies.{Reply, reply_frame}
+use Rattle.ig_deals.specs.Replies.{reply_frame}
 use Rattle.ig_deals.specs.Turns.{Terms, turn}
 use Rattle.ig_deals.specs.OutFrames.{replies, desk_after, reply_frames, terms_at}
 use Rattle.ig_deals.specs.Pieces.{piece_left, piece_at}
 use Rattle.ig_deals.specs.Serves.{joined}
 use Rattle.ig_deals.specs.Laws.{IsApart}
 use Rattle.ig_deals.proofs.ApartLemmas.{own_reply}
-use Rattle.ig_deals.proofs.ReplyLemmas.{replies-append, reply_frames-append}
+use Rattle.ig_deals.proofs.ReplyLemmas.{reply_frames-append}
 use Rattle.ig_replies.specs.Showing.{Waiting, left_of, bytes_left, piece_of, piece_shown, frames_when, after_gone, frames_and, after_push}
 use Rattle.ig_session.specs.States.{State, new_state}
 use Rattle.ig_session.specs.Steps.{fed, written}
 use Rattle.ig_session.specs.StandsAhead.{HandedAhead, IsDue, in_order, frames_ahead, out_ahead, StandsAhead}
 use Rattle.ig_session.proofs.StandLemmas.{joined-append}
-use Rattle.ig_session.proofs.ApartLemmas.{desk_apart, crew_tells}
+use Rattle.ig_session.proofs.ApartLemmas.{crew_tells}
 use Rattle.ig_session.proofs.PlaceLemmas.{at_end, at_other, at_first, in_order_same, in_order_more}
 
 -- ---- the input

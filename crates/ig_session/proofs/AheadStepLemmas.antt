@@ -39,7 +39,7 @@ use Rattle.ig_session.proofs.PlaceLemmas.{at_end, at_first, due_in, due_within, 
 use Rattle.ig_session.proofs.OutLemmas.{dealt_ahead-append, given_ahead, calls_dealt, calls_among, out_among-append, out_one, out_none}
 use Rattle.ig_session.proofs.AheadLemmas.{ahead_terms, frames_at, frames_first, frame_last, one_more_shown, open_shown, open_shown_more, same_shown}
 use Rattle.ig_session.proofs.DueLemmas.{neither, first_false, none_out, all_due, due_push, no_scan_out, at_last}
-use Rattle.ig_session.proofs.StandsByLemmas.{StandsBy, stands_by, open_in_ahead, in_open_ahead, each_open, open_each}
+use Rattle.ig_session.proofs.StandsByLemmas.{stands_by, open_in_ahead, in_open_ahead, each_open, open_each}
 use Rattle.ig_session.proofs.AheadGreetLemmas.{opened_stands_ahead, refused_stands_ahead}
 
 -- ---- requests

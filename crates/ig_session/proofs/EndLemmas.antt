@@ -1,27 +1,22 @@
 -- A session that ends has run to its end.
-use Rattle.std.specs.Prelude.{◌≢◌, ◌^◌, min}
-use Rattle.std.proofs.Common.{◌≡◌, ℕ, ◌+◌, ◌<◌, ◌≤◌, ℤ, List, [], ◌∷◌, ◌++◌, length, Option, None, Some, Ok, Err, refl, sym, ap, ◌∙◌, subst, arith, append-nil, length-append}
+use Rattle.std.proofs.Common.{◌≡◌, ℕ, ◌+◌, ◌<◌, ◌≤◌, ℤ, List, [], ◌∷◌, ◌++◌, length, Option, None, Some, Ok, refl, sym, ap, ◌∙◌, subst, arith, append-nil, length-append}
 use Rattle.std.specs.List.{flat_map}
-use Rattle.ig_base.specs.Frames.{client, max_body, least_after, Begins, Frame, front, Front, Body, Bad, Incomplete}
+use Rattle.ig_base.specs.Frames.{client, max_body, least_after, Frame, front, Front, Body, Bad, Incomplete}
 use Rattle.ig_wire.specs.declared.hello.Hello.{Hello}
 use Rattle.ig_wire.specs.Limits.{most_session_bytes}
-use Rattle.ig_frame.specs.Streams.{Stream, HandedOut, front_at, place_of}
+use Rattle.ig_frame.specs.Streams.{HandedOut, front_at}
 use Rattle.ig_caches.specs.declared.call.Call.{Call}
 use Rattle.ig_deals.specs.declared.end.SessionEnd.{SessionEnd}
 use Rattle.ig_deals.specs.declared.end.SessionEnd.TheVariants as ends
-use Rattle.ig_deals.specs.declared.cfg.SessionCfg.{SessionCfg}
-use Rattle.ig_deals.specs.Desk.{Desk}
-use Rattle.ig_deals.specs.Hellos.{Greeting, greeting_of}
+use Rattle.ig_deals.specs.Hellos.{greeting_of}
 use Rattle.ig_deals.specs.Asks.{Asked, asked_in, asks}
 use Rattle.ig_deals.specs.Deals.{Ran, handed, gots, call_for, calls}
 use Rattle.ig_deals.specs.Telling.{session_manner}
 use Rattle.ig_deals.specs.OutFrames.{out_frames}
 use Rattle.ig_deals.specs.Serves.{IsAccepted, IsOpen, IsGoing, IsWaiting, EndsBy, Shows, ShowsPart, Runs, joined}
 use Rattle.ig_replies.specs.declared.terms.Terms.{Terms}
-use Rattle.ig_replies.specs.Showing.{Waiting}
 use Rattle.ig_session.specs.declared.phase.Phase.{Phase}
 use Rattle.ig_session.specs.declared.phase.Phase.TheVariants.{BeforeHello, Open, Refused, OutOfMemory}
-use Rattle.ig_session.specs.declared.awaited.Awaited.{Awaited}
 use Rattle.ig_session.specs.declared.step.Step.TheVariants as steps
 use Rattle.ig_session.specs.States.{State}
 use Rattle.ig_session.specs.Comings.{Coming, Replies, Stops, Misses, Greets, Asks, least_in, found, coming_in, coming}

@@ -1,9 +1,8 @@
 -- What is remembered of a request whose call is out is all that its reply depends on.
-use Rattle.std.proofs.Common.{◌≡◌, ℕ, ℤ, List, [], ◌∷◌, Option, None, Some, Result, Ok, Err, refl, sym, ap, ◌∙◌}
+use Rattle.std.proofs.Common.{◌≡◌, ℕ, ℤ, List, Some, Result, Ok, Err, refl, ap, ◌∙◌}
 use Rattle.ig_wire.specs.declared.head.Fault.{Fault}
 use Rattle.ig_caches.specs.declared.call.Call.{Call}
 use Rattle.ig_caches.specs.declared.call.Call.TheVariants as call
-use Rattle.ig_caches.specs.declared.answer.Answer.{Answer}
 use Rattle.ig_caches.specs.declared.answer.Outcome.{Outcome}
 use Rattle.ig_caches.specs.declared.answer.Outcome.TheVariants as outcome
 use Rattle.ig_caches.specs.declared.request.Request.{Request}
@@ -11,11 +10,11 @@ use Rattle.ig_caches.specs.declared.request.Request.TheVariants as request
 use Rattle.ig_parts.specs.ServedMap.{served_map}
 use Rattle.ig_deals.specs.declared.cfg.SessionCfg.{SessionCfg}
 use Rattle.ig_deals.specs.Asks.{Asked}
-use Rattle.ig_deals.specs.Deals.{Got, Had, NoMemory, call_in, call_for, Deal}
+use Rattle.ig_deals.specs.Deals.{Got, Had, NoMemory, call_in, call_for}
 use Rattle.ig_deals.specs.Desk.{Desk}
 use Rattle.ig_deals.specs.Replies.{Content, Maps}
 use Rattle.ig_deals.specs.Telling.{topology}
-use Rattle.ig_deals.specs.Turns.{Terms, Turn, caches_in, content_of, answers, run_turn, request_turn, turn_for, turn}
+use Rattle.ig_deals.specs.Turns.{Terms, caches_in, content_of, answers, run_turn, request_turn, turn_for, turn}
 use Rattle.ig_session.specs.Awaiting.{awaits_of, request_of, awaits_in, awaited_of, deal_of}
 
 -- the call that stands for a call that is out: it has the same caches

@@ -1,5 +1,5 @@
 -- What a session stands for, by its deals.
-use Rattle.std.proofs.Common.{◌≡◌, ℕ, ◌+◌, List, [], ◌++◌, map, length, sym, subst}
+use Rattle.std.proofs.Common.{◌≡◌, ℕ, List, ◌++◌, map, length, sym, subst}
 use Rattle.std.specs.Prelude.{Contains, slice_get}
 use Rattle.ig_base.specs.Numbers.{AreBytes}
 use Rattle.ig_base.specs.Frames.{client}
@@ -15,7 +15,6 @@ use Rattle.ig_replies.specs.Showing.{bytes_left}
 use Rattle.ig_session.specs.declared.phase.Phase.{Phase}
 use Rattle.ig_session.specs.declared.phase.Phase.TheVariants.{Open}
 use Rattle.ig_session.specs.States.{State}
-use Rattle.ig_session.specs.Steps.{handed_out}
 use Rattle.ig_session.specs.StandsAhead.{HandedAhead, given_so_far, dealt_ahead, out_among, IsDue, IsOrder, AreScansAlone, HasEach, out_ahead, IsOpenAhead, IsInAhead, StandsAhead}
 
 -- ---- the whole, by its deals

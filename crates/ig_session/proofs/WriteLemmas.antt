@@ -1,5 +1,5 @@
 -- Bytes that are written keep what a session stands for.
-use Rattle.std.proofs.Common.{◌≡◌, refl, ℕ, ◌+◌, ◌-◌, ◌<◌, ◌≤◌, inl, inr, List, [], ◌∷◌, ◌++◌, length, take, drop, sym, ap, ◌∙◌, subst, arith, take-add}
+use Rattle.std.proofs.Common.{◌≡◌, refl, ℕ, ◌+◌, ◌≤◌, inl, inr, List, [], ◌∷◌, ◌++◌, length, take, drop, sym, ap, ◌∙◌, subst, arith, take-add}
 use Rattle.std.specs.Prelude.{min, nat_lt}
 use Rattle.std.proofs.lemmas.Bool.{le-ltb, lt-ltb, cond-true, cond-false, cases_lt}
 use Rattle.std.proofs.lemmas.List.{append-nil, append_assoc, length-take, take-take, take_all}
@@ -9,7 +9,7 @@ use Rattle.ig_deals.specs.Telling.{session_manner}
 use Rattle.ig_deals.specs.OutFrames.{out_frames}
 use Rattle.ig_deals.specs.Pieces.{piece_left, piece_at}
 use Rattle.ig_deals.specs.Serves.{joined, ShowsPart}
-use Rattle.ig_replies.specs.Showing.{Waiting, piece_of, piece_shown, frames_when, after_gone}
+use Rattle.ig_replies.specs.Showing.{Waiting, piece_of, piece_shown, frames_when}
 use Rattle.ig_session.proofs.StandLemmas.{joined-append}
 use Rattle.ig_session.specs.declared.phase.Phase.{Phase}
 use Rattle.ig_session.specs.declared.phase.Phase.TheVariants.{BeforeHello, Open, Refused, OutOfMemory}

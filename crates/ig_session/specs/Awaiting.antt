@@ -1,5 +1,5 @@
 -- Calls that are out, and what is remembered of their requests: all that their replies depend on.
-use Rattle.std.specs.Prelude.{◌≡◌, ◌==◌, ℕ, Bool, true, false, not, List, [], ◌∷◌, map, filter, find, Option, Some, Result, Ok, Err}
+use Rattle.std.specs.Prelude.{◌==◌, ℕ, Bool, true, false, not, List, filter, find, Option, Some, Result, Ok, Err}
 use Rattle.ig_caches.specs.declared.call.Call.TheVariants.{Names, Affinity}
 use Rattle.ig_caches.specs.declared.request.Request.{Request}
 use Rattle.ig_caches.specs.declared.request.Request.TheVariants as request

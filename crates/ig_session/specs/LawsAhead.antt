@@ -1,5 +1,5 @@
 -- What each step keeps of what a session stands for whose calls are answered in any order.
-use Rattle.std.specs.Prelude.{◌≡◌, ℕ, zero, suc, ◌≤◌, List, [], ◌∷◌, ◌++◌, length, take, slice_get, Option, None, Some}
+use Rattle.std.specs.Prelude.{◌≡◌, ℕ, zero, suc, ◌≤◌, List, [], ◌∷◌, ◌++◌, length, take, slice_get, None, Some}
 use Rattle.ig_base.specs.Numbers.{AreBytes}
 use Rattle.ig_caches.specs.declared.call.Call.{Call}
 use Rattle.ig_deals.specs.declared.cfg.SessionCfg.{SessionCfg}

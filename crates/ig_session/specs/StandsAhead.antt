@@ -1,5 +1,5 @@
 -- What a session stands for of which several calls may be out, and are answered in any order.
-use Rattle.std.specs.Prelude.{◌≡◌, ◌↔◌, ℕ, suc, ◌<◌, Bool, true, false, List, [], ◌∷◌, ◌++◌, map, length, Contains, slice_get, Option, None, Some, Result, Ok, Err}
+use Rattle.std.specs.Prelude.{◌≡◌, ◌↔◌, ℕ, suc, ◌<◌, Bool, true, false, List, [], ◌∷◌, ◌++◌, map, length, Contains, slice_get, Option, None, Some, Ok, Err}
 use Rattle.std.specs.List.{filter_map}
 use Rattle.ig_base.specs.Numbers.{AreBytes}
 use Rattle.ig_base.specs.Frames.{client}
@@ -15,9 +15,8 @@ use Rattle.ig_deals.specs.Telling.{crew_manner}
 use Rattle.ig_deals.specs.Turns.{Terms}
 use Rattle.ig_deals.specs.OutFrames.{desk_after, reply_frames, terms_at}
 use Rattle.ig_deals.specs.Serves.{IsRefused, joined}
-use Rattle.ig_deals.specs.Laws.{IsPrefix}
 use Rattle.ig_replies.specs.RunTerms.{terms_of}
-use Rattle.ig_replies.specs.Showing.{Waiting, bytes_left}
+use Rattle.ig_replies.specs.Showing.{bytes_left}
 use Rattle.ig_session.specs.declared.phase.Phase.{Phase}
 use Rattle.ig_session.specs.declared.phase.Phase.TheVariants.{BeforeHello, Open, Refused, OutOfMemory}
 use Rattle.ig_session.specs.declared.awaited.Awaited.{Awaited}
