@@ -39,8 +39,8 @@ no_deal (first ∷ before) after deal e = cc
 no_due : (place : ℕ) → IsDue (slice_get [] place) → ⊥
 no_due place due = due
 
-pub new_stands_ahead : (cfg : SessionCfg) → StandsAhead (new_state cfg) [] [] [] []
-new_stands_ahead cfg = record {
+pub new_stands_ahead : (limit : ℕ) (cfg : SessionCfg) → StandsAhead limit (new_state cfg) [] [] [] []
+new_stands_ahead limit cfg = record {
   bodies = [];
   read = record { begins = Begins-start client []; place = refl };
   are_bytes = λ i. omega arith;
@@ -51,12 +51,13 @@ new_stands_ahead cfg = record {
   alone = λ before after deal e looks due. absurd (no_deal before after deal e);
   order_is = tt;
   each = λ place due. absurd (no_due place due);
+  counted = (omega arith, omega arith);
   shows = refl;
 }
 
-pub fed_stands_ahead : (s : State) (input piece : List ℕ) (ran : List HandedAhead) (order output : List ℕ) → AreBytes piece
-    → StandsAhead s input ran order output → StandsAhead (fed s piece) (input ++ piece) ran order output
-fed_stands_ahead s input piece ran order output are stood = record {
+pub fed_stands_ahead : (limit : ℕ) (s : State) (input piece : List ℕ) (ran : List HandedAhead) (order output : List ℕ) → AreBytes piece
+    → StandsAhead limit s input ran order output → StandsAhead limit (fed s piece) (input ++ piece) ran order output
+fed_stands_ahead limit s input piece ran order output are stood = record {
   bodies = stood.bodies;
   read = record { begins = Begins-more stood.read.begins piece; place = stood.read.place };
   are_bytes = append_bytes s.stream.rest piece stood.are_bytes are;
@@ -67,6 +68,7 @@ fed_stands_ahead s input piece ran order output are stood = record {
   alone = stood.alone;
   order_is = stood.order_is;
   each = stood.each;
+  counted = stood.counted;
   shows = stood.shows;
 }
 
@@ -80,7 +82,7 @@ left_when (frame ∷ others) gone n le =
     let piece : take n (piece_at frame gone) ≡ take n (drop gone frame) = take-take n (piece_left gone) (drop gone frame) (omega (arith, len, le)) in
     elim (cases_lt (gone + n) (length frame)) [
       | inl less ↦
-          let stays = cond-true (nat_lt (gone + n) (length frame)) (record { frames = frame ∷ others; gone = gone + n }) (record { frames = others; gone = 0 }) (lt-ltb (gone + n) (length frame) less) in
+          let stays : frames_when (frame ∷ others) (gone + n) ≡ record { frames = frame ∷ others; gone = gone + n } = cond-true (nat_lt (gone + n) (length frame)) (record { frames = frame ∷ others; gone = gone + n }) (record { frames = others; gone = 0 }) (lt-ltb (gone + n) (length frame) less) in
           ap (λ (w : Waiting). take n (piece_at frame gone) ++ bytes_left w) stays
           ∙ ap (λ (l : List ℕ). l ++ (drop (gone + n) frame ++ joined others)) piece
           ∙ sym (append_assoc (take n (drop gone frame)) (drop (gone + n) frame) (joined others))
@@ -90,7 +92,7 @@ left_when (frame ∷ others) gone n le =
           )
       | inr over ↦
           let all : length (drop gone frame) ≤ n = omega (arith, over, length-drop gone frame) in
-          let goes = cond-false (nat_lt (gone + n) (length frame)) (record { frames = frame ∷ others; gone = gone + n }) (record { frames = others; gone = 0 }) (le-ltb (gone + n) (length frame) over) in
+          let goes : frames_when (frame ∷ others) (gone + n) ≡ record { frames = others; gone = 0 } = cond-false (nat_lt (gone + n) (length frame)) (record { frames = frame ∷ others; gone = gone + n }) (record { frames = others; gone = 0 }) (le-ltb (gone + n) (length frame) over) in
           ap (λ (w : Waiting). take n (piece_at frame gone) ++ bytes_left w) goes
           ∙ ap (λ (l : List ℕ). l ++ left_of others 0) (piece ∙ take_all n (drop gone frame) all)
           ∙ ap (λ (l : List ℕ). drop gone frame ++ l) (none_gone others)
@@ -99,9 +101,9 @@ left_when (frame ∷ others) gone n le =
       none_gone [] = refl
       none_gone (f ∷ l) = refl
 
-pub written_stands_ahead : (s : State) (input : List ℕ) (ran : List HandedAhead) (order output : List ℕ) (n : ℕ) → n ≤ length (piece_shown s.waiting)
-    → StandsAhead s input ran order output → StandsAhead (written s n) input ran order (output ++ take n (piece_shown s.waiting))
-written_stands_ahead s input ran order output n le stood = record {
+pub written_stands_ahead : (limit : ℕ) (s : State) (input : List ℕ) (ran : List HandedAhead) (order output : List ℕ) (n : ℕ) → n ≤ length (piece_shown s.waiting)
+    → StandsAhead limit s input ran order output → StandsAhead limit (written s n) input ran order (output ++ take n (piece_shown s.waiting))
+written_stands_ahead limit s input ran order output n le stood = record {
   bodies = stood.bodies;
   read = stood.read;
   are_bytes = stood.are_bytes;
@@ -112,6 +114,7 @@ written_stands_ahead s input ran order output n le stood = record {
   alone = stood.alone;
   order_is = stood.order_is;
   each = stood.each;
+  counted = stood.counted;
   shows = append_assoc output (take n (piece_shown s.waiting)) (bytes_left (after_gone s.waiting n))
       ∙ ap (λ (l : List ℕ). output ++ l) (left_when s.waiting.frames s.waiting.gone n le) ∙ stood.shows;
 }
