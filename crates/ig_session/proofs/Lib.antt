@@ -1,5 +1,7 @@
 pub mod HistoryLemmas
 pub mod ComingLemmas
+pub mod LookLemmas
+pub mod OutboxLemmas
 pub mod StandLemmas
 pub mod GreetLemmas
 pub mod AskLemmas

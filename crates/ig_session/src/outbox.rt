@@ -76,7 +76,7 @@ impl Outbox {
 
     /// Adds the reply to the hello, where nothing waits. Takes no memory.
     pub(crate) fn greet(&mut self, frame: Octets)
-        requires none { self.old ≡ waiting_none }
+        requires none { self.old.frames ≡ [] }
         requires some { 0 < length frame }
         requires short { length frame ≤ piece_bytes }
         ensures { self.new ≡ after_push self.old frame }
