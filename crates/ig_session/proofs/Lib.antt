@@ -1,6 +1,9 @@
 pub mod HistoryLemmas
 pub mod ComingLemmas
+pub mod SoundLemmas
+pub mod FrontLemmas
 pub mod LookLemmas
+pub mod RequestLemmas
 pub mod OutboxLemmas
 pub mod StandLemmas
 pub mod GreetLemmas
@@ -12,5 +15,6 @@ pub mod StepLemmas
 pub mod EndLemmas
 pub mod TakeLemmas
 pub mod SinceLemmas
+pub mod SendLemmas
+pub mod ProgressLemmas
 pub mod LoopLemmas
-pub mod SoundLemmas

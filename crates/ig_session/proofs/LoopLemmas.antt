@@ -14,12 +14,14 @@ use Rattle.ig_deals.specs.declared.end.SessionEnd.TheVariants as ends
 use Rattle.ig_deals.specs.Deals.{Ran, entries_of}
 use Rattle.ig_deals.specs.Telling.{session_manner}
 use Rattle.ig_deals.specs.Serves.{Runs}
+use Rattle.ig_session.specs.Cfg.{IsCfg}
 use Rattle.ig_session.specs.States.{State, new_state}
 use Rattle.ig_session.specs.Comings.{Misses, coming, IsPaused}
 use Rattle.ig_session.specs.Serving.{HasEnded, IsStillOpen, ReadHasFailed, WriteHasFailed, AnswersAll, TakesPiece, EndsAnswering, EndsTaking, IsCaused, Served, Going}
 use Rattle.ig_session.proofs.HistoryLemmas.{StandsOn-nothing, joins_keeps}
 use Rattle.ig_session.proofs.StandLemmas.{new_stands}
 use Rattle.ig_session.proofs.SinceLemmas.{held_not}
+use Rattle.ig_session.proofs.SoundLemmas.{new_sound}
 
 pub nothing_ran : (cfg : SessionCfg) → Runs cfg session_manner [] [] [] ends.NoMemory
 nothing_ran cfg = record {
@@ -50,8 +52,8 @@ module _ {C : Type 0} (stands : C → PlainCaches → List (Entry Call Answer) �
     caused = (refl, refl);
   }
 
-  pub going_start : (caller : C) (source : SourceState) (sink : SinkState) → Going stands seat cfg caller caller (new_state cfg) source source sink sink 0
-  going_start caller source sink = record {
+  pub going_start : (caller : C) (source : SourceState) (sink : SinkState) → IsCfg cfg → Going stands seat cfg caller caller (new_state cfg) source source sink sink 0
+  going_start caller source sink is = record {
     input = [];
     output = [];
     ran = [];
@@ -65,6 +67,7 @@ module _ {C : Type 0} (stands : C → PlainCaches → List (Entry Call Answer) �
     no_read_fault = refl;
     no_write_fault = refl;
     stands_for = new_stands cfg;
+    sound = new_sound cfg is;
     paused = new_paused cfg;
     none_out = refl;
   }
@@ -88,6 +91,7 @@ module _ {C : Type 0} (stands : C → PlainCaches → List (Entry Call Answer) �
         no_read_fault = takes.cause.2.counts ∙ going.no_read_fault;
         no_write_fault = answers.cause ∙ going.no_write_fault;
         stands_for = paused.stands;
+        sound = paused.sound;
         paused = paused.paused;
         none_out = paused.none_out;
       }

@@ -180,15 +180,15 @@ module _ {C : Type 0} (stands : C → PlainCaches → List (Entry Call Answer) �
       }
 
   -- no whole frame is left
-  pub since_paused : {A : Type 0} (a b : C) (first s : State) (s0 s1 : SinkState) (done : A) → Since stands seat a b first s s0 s1 → IsPaused s → s.out ≡ [] → AnswersAll stands seat a b first s s0 s1 (Ok done)
-  since_paused a b first s s0 s1 done since paused none = record {
+  pub since_paused : {A : Type 0} (a b : C) (first s : State) (s0 s1 : SinkState) (done : A) → Since stands seat a b first s s0 s1 → IsSound s → IsPaused s → s.out ≡ [] → AnswersAll stands seat a b first s s0 s1 (Ok done)
+  since_paused a b first s s0 s1 done since sound paused none = record {
     ran = since.ran;
     out = since.out;
     keeps = since.keeps;
     gets = since.gets;
     cause = since.counts;
     cfg = since.cfg;
-    continues = λ input results output within stood. record { stands = since.continues input results output stood; paused = paused; none_out = none };
+    continues = λ input results output within stood. record { stands = since.continues input results output stood; sound = sound; paused = paused; none_out = none };
   }
 
   -- the session ended while it answered, by another cause than a write fault

@@ -9,6 +9,7 @@ ghost use Rattle.ig_deals.specs.declared.end.SessionEnd.TheVariants as ends;
 ghost use Rattle.ig_session.specs.Awaiting.{is_scan, awaited_at, without_nth};
 ghost use Rattle.ig_session.specs.Comings.{coming};
 ghost use Rattle.ig_session.specs.Requests.{coming_said, IsServable, HandsRunnableAhead};
+ghost use Rattle.ig_session.specs.Soundness.{IsSound};
 ghost use Rattle.ig_session.specs.Steps.{given, IsSpent, Lacks};
 ghost use Rattle.ig_session.specs.StepsAhead.{waits_for_all, is_full, stop_or_wait, step_on, step_ahead, answered_nth};
 
@@ -59,6 +60,7 @@ impl Session {
         ensures ok { IfOk result (λ step. (step, self.new) ≡ step_ahead limit self.old) }
         ensures runnable { IfOk result HandsRunnableAhead }
         ensures err { OnErr result (Lacks self.old self.new) }
+        ensures sound { IsSound self.old }
     {
         if self.outbox.is_empty() && self.is_full(limit) {
             return Ok(self.stop_or_wait());

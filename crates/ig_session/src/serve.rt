@@ -5,6 +5,7 @@ ghost use Rattle.std.specs.Prelude.{◌≡◌, ◌<◌, ◌≤◌, ◌+◌, [], 
 ghost use Rattle.ig_wire.specs.Limits.{most_session_bytes, piece_bytes};
 ghost use Rattle.ig_session.specs.Cfg.{IsCfg};
 ghost use Rattle.ig_session.specs.Comings.{IsPaused};
+ghost use Rattle.ig_session.specs.Soundness.{IsSound};
 ghost use Rattle.ig_session.specs.Serving.{TakesPiece, AnswersAll, SendsWaiting, GivesAnswer, Served};
 ghost use Rattle.ig_caches.specs.IsRunnable.{IsRunnable};
 ghost use Rattle.ig_deals.specs.Deals.{Got as a_got, entry_of};
@@ -27,6 +28,7 @@ fn take_piece<S: Source>(
     buf: &mut [u8],
     taken: u64,
 ) -> Result<u64, SessionEnd>
+    requires sound { IsSound session.old }
     requires paused { IsPaused session.old }
     requires none { session.old.out ≡ [] }
     requires room { length buf.old ≡ piece_bytes }
