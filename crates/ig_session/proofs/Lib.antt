@@ -5,6 +5,8 @@ pub mod FrontLemmas
 pub mod LookLemmas
 pub mod RequestLemmas
 pub mod OutboxLemmas
+pub mod NthLemmas
+pub mod AheadLemmas
 pub mod StandLemmas
 pub mod GreetLemmas
 pub mod AskLemmas
@@ -17,4 +19,5 @@ pub mod TakeLemmas
 pub mod SinceLemmas
 pub mod SendLemmas
 pub mod ProgressLemmas
+pub mod AnswerAllLemmas
 pub mod LoopLemmas

@@ -6,7 +6,7 @@ ghost use Rattle.ig_session.specs.declared.awaited.Awaited.{Awaited as a_call_ou
 ghost use Rattle.ig_session.specs.declared.phase.Phase.TheVariants.{OutOfMemory};
 ghost use Rattle.ig_session.specs.declared.step.Ahead.TheVariants.{Stop, Wait};
 ghost use Rattle.ig_deals.specs.declared.end.SessionEnd.TheVariants as ends;
-ghost use Rattle.ig_session.specs.Awaiting.{is_scan, awaited_at, without_nth};
+ghost use Rattle.ig_session.specs.Awaiting.{is_scan, awaited_at, place_of_nth, without_nth};
 ghost use Rattle.ig_session.specs.Comings.{coming};
 ghost use Rattle.ig_session.specs.Requests.{coming_said, IsServable, HandsRunnableAhead};
 ghost use Rattle.ig_session.specs.Soundness.{IsSound};
@@ -41,6 +41,14 @@ fn waits_for_all(next: &Coming) -> bool
         Coming::Asks(_, _, Ok(_)) => true,
         _ => false,
     }
+}
+
+/// The index of the call with this number.
+#[tactic(auto, unfolding(crate::specs::Awaiting::place_of_nth))]
+fn index_of(out: &[Awaited], nth: u64) -> Option<usize>
+    ensures { result ≡ place_of_nth out.now nth }
+{
+    out.iter().position(|awaited| awaited.nth == nth)
 }
 
 impl Session {
@@ -137,7 +145,7 @@ impl Session {
         ensures ok { OnOk result (self.new ≡ answered_nth self.old nth (given got)) }
         ensures err { OnErr result (IsSpent self.old self.new (without_nth self.old.out nth)) }
     {
-        match self.out.iter().position(|awaited| awaited.nth == nth) {
+        match index_of(&self.out, nth) {
             Some(index) => {
                 let awaited = self.out.remove(index);
                 self.settle(awaited, got)

@@ -57,7 +57,7 @@ fn send_waiting<K: Sink>(session: &mut Session, sink: &mut K) -> Result<(), Sess
     ensures sends { SendsWaiting session.old session.new (K.sink sink.old) (K.sink sink.new) result }
     ensures beside { K.source_beside sink.new ≡ K.source_beside sink.old }
 {
-    while !session.waiting().is_empty() {
+    'pieces: while !session.waiting().is_empty() {
         let waiting = session.waiting();
         let count = waiting.len();
         if send_all(sink, waiting).is_err() {

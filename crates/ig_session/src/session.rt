@@ -56,7 +56,7 @@ impl Model for Session {
 impl Session {
     ghost use Rattle.std.specs.Prelude.{◌≡◌, ◌↔◌, ◌≤◌, ◌+◌, [], length, IfOk, OnOk, OnErr};
     ghost use Rattle.ig_base.specs.Numbers.{AreBytes};
-    ghost use Rattle.ig_replies.specs.Showing.{piece_shown};
+    ghost use Rattle.ig_replies.specs.Showing.{waiting_none, piece_shown};
     ghost use Rattle.ig_session.specs.Cfg.{IsCfg};
     ghost use Rattle.ig_session.specs.States.{new_state};
     ghost use Rattle.ig_session.specs.Soundness.{most_fed, most_held};
@@ -126,7 +126,7 @@ impl Session {
     /// none waits. Takes no memory.
     pub fn waiting(&self) -> &[u8]
         ensures shown { result.now ≡ piece_shown self.now.waiting }
-        ensures end { (result.now ≡ []) ↔ (self.now.waiting.frames ≡ []) }
+        ensures end { (result.now ≡ []) ↔ (self.now.waiting ≡ waiting_none) }
     {
         self.outbox.waiting()
     }
