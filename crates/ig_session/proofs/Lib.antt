@@ -1,6 +1,7 @@
 pub mod HistoryLemmas
 pub mod ComingLemmas
 pub mod SoundLemmas
+pub mod ChangeLemmas
 pub mod FrontLemmas
 pub mod LookLemmas
 pub mod RequestLemmas
