@@ -1,17 +1,21 @@
 -- What the parts of a session make of it, after they changed.
 use Rattle.std.proofs.Common.{◌≡◌, inl, inr, ℕ, ◌+◌, ◌<◌, ◌≤◌, ℤ, pos, List, [], ◌∷◌, ◌++◌, length, Option, None, Some, Result, Ok, Err, refl, sym, ap, ◌∙◌, subst, arith}
-use Rattle.std.specs.Prelude.{false}
+use Rattle.std.specs.Prelude.{false, OnOk, OnErr}
+use Rattle.ig_base.specs.Frames.{max_body}
+use Rattle.ig_frame.specs.Streams.{Stream, new_stream, longer_stream}
 use Rattle.ig_wire.specs.declared.version.Version.{Version}
 use Rattle.ig_wire.specs.declared.hello.HelloFault.{HelloFault}
 use Rattle.ig_wire.specs.declared.ask.AskFault.{AskFault}
 use Rattle.ig_wire.specs.Versions.{has_flags}
 use Rattle.ig_caches.specs.declared.request.Request.{Request}
 use Rattle.ig_caches.specs.declared.request.Request.TheVariants.{NextPage, Close}
+use Rattle.ig_deals.specs.declared.cfg.SessionCfg.{SessionCfg}
+use Rattle.ig_deals.specs.declared.end.SessionEnd.TheVariants as ends
 use Rattle.ig_deals.specs.declared.manner.Manner.{Manner}
 use Rattle.ig_deals.specs.declared.manner.Manner.TheVariants.{Never}
 use Rattle.ig_deals.specs.Asks.{Asked}
 use Rattle.ig_deals.specs.Deals.{Got, Deal}
-use Rattle.ig_deals.specs.Desk.{Cursor, Desk, cursor_at, without}
+use Rattle.ig_deals.specs.Desk.{Cursor, Desk, fresh_desk, cursor_at, without}
 use Rattle.ig_deals.specs.Hellos.{Greeting}
 use Rattle.ig_deals.specs.Laws.{IsDesk}
 use Rattle.ig_deals.specs.Replies.{reply_frame}
@@ -19,18 +23,18 @@ use Rattle.ig_deals.specs.Turns.{Terms, Turn, close_turn, turn}
 use Rattle.ig_deals.proofs.TakeLemmas.{without_absent}
 use Rattle.ig_replies.specs.declared.terms.Terms.{Terms as HeldTerms}
 use Rattle.ig_replies.specs.RunTerms.{terms_of}
-use Rattle.ig_replies.specs.Showing.{Waiting, Showing, showing, after_push}
+use Rattle.ig_replies.specs.Showing.{Waiting, waiting_none, Showing, showing, after_push}
 use Rattle.ig_replies.specs.Turned.{IsTurned}
 use Rattle.ig_session.specs.declared.phase.Phase.{Phase}
 use Rattle.ig_session.specs.declared.phase.Phase.TheVariants.{BeforeHello, Open, Refused, OutOfMemory}
 use Rattle.ig_session.specs.declared.awaited.Awaited.{Awaited}
 use Rattle.ig_session.specs.Awaiting.{deal_of}
-use Rattle.ig_session.specs.States.{State}
+use Rattle.ig_session.specs.States.{State, state_of, new_state}
 use Rattle.ig_session.specs.Comings.{Greets, Asks, coming}
-use Rattle.ig_session.specs.Soundness.{IsSound}
-use Rattle.ig_session.specs.Steps.{passed, opened, refused, greeting_frame, acceptance_frame, said, settled, settled_in, IsSpent, Lacks}
+use Rattle.ig_session.specs.Soundness.{most_fed, IsSound}
+use Rattle.ig_session.specs.Steps.{passed, opened, refused, greeting_frame, acceptance_frame, said, settled, settled_in, end_after, IsSpent, Lacks}
 use Rattle.ig_session.proofs.ComingLemmas.{ComesAs, comes_as, HelloIn, hello_comes}
-use Rattle.ig_session.proofs.SoundLemmas.{passed_sound, waiting_sound, phase_sound, pushed_sound, none_before, turn_is_desk}
+use Rattle.ig_session.proofs.SoundLemmas.{fed_sound, passed_sound, waiting_sound, phase_sound, pushed_sound, none_before, turn_is_desk}
 
 -- ---- the hello
 
@@ -115,3 +119,39 @@ without_is_desk terms desk k is = by (cursor_at desk.cursors k) refl where
   by : (o : Option Cursor) → cursor_at desk.cursors k ≡ o → IsDesk (record desk { cursors = without desk.cursors k })
   by None e = subst (λ (cs : List Cursor). IsDesk (record desk { cursors = cs })) (sym (without_absent k desk.cursors e)) is
   by (Some cursor) e = subst (λ (o : Option Cursor). IsDesk (close_turn terms desk (pos 0) k o).desk) e closed
+
+-- ---- a new session, and more input
+
+pub new_is : (cfg : SessionCfg) (stream : Stream) (desk : Desk) (out : List Awaited) (waiting : Waiting) → stream ≡ new_stream max_body → desk ≡ fresh_desk → out ≡ [] → waiting ≡ waiting_none
+    → state_of cfg stream BeforeHello desk out 0 waiting ≡ new_state cfg
+new_is cfg stream desk out waiting a b c d =
+    ap (λ (x : Stream). state_of cfg x BeforeHello desk out 0 waiting) a ∙ ap (λ (x : Desk). state_of cfg (new_stream max_body) BeforeHello x out 0 waiting) b
+    ∙ ap (λ (x : List Awaited). state_of cfg (new_stream max_body) BeforeHello fresh_desk x 0 waiting) c ∙ ap (λ (x : Waiting). state_of cfg (new_stream max_body) BeforeHello fresh_desk [] 0 x) d
+
+pub fed_either : {A E : Type 0} (result : Result A E) (s : State) (stream : Stream) (piece : List ℕ) → OnOk result (stream ≡ longer_stream s.stream piece) → OnErr result (stream ≡ s.stream)
+    → s.stream.place + length s.stream.rest + length piece ≤ most_fed → IsSound s → IsSound (record s { stream = stream })
+fed_either (Ok done) s stream piece ok err le sound = subst (λ (t : Stream). IsSound (record s { stream = t })) (sym ok) (fed_sound s piece le sound)
+fed_either (Err lack) s stream piece ok err le sound = subst (λ (t : Stream). IsSound (record s { stream = t })) (sym err) sound
+
+-- ---- the end of the input
+
+pub truncated_other : (phase : Phase) (rest : List ℕ) (missing : ℕ) → ((terms : HeldTerms) → phase ≡ Open terms → ⊥) → end_after phase rest missing ≡ ends.Truncated missing
+truncated_other BeforeHello rest missing no = refl
+truncated_other (Open terms) rest missing no = absurd (no terms refl)
+truncated_other (Refused fault) rest missing no = refl
+truncated_other OutOfMemory rest missing no = refl
+
+pub truncated_inside : (phase : Phase) (rest : List ℕ) (missing : ℕ) → (rest ≡ [] → ⊥) → end_after phase rest missing ≡ ends.Truncated missing
+truncated_inside BeforeHello rest missing no = refl
+truncated_inside (Open terms) [] missing no = absurd (no refl)
+truncated_inside (Open terms) (byte ∷ rest) missing no = refl
+truncated_inside (Refused fault) rest missing no = refl
+truncated_inside OutOfMemory rest missing no = refl
+
+pub ended_open : (phase : Phase) (terms : HeldTerms) (rest : List ℕ) (missing : ℕ) → phase ≡ Open terms → rest ≡ [] → end_after phase rest missing ≡ ends.Ended
+ended_open phase terms rest missing is none = ap (λ (p : Phase). end_after p rest missing) is ∙ ap (λ (l : List ℕ). end_after (Open terms) l missing) none
+
+-- ---- what waits
+
+pub none_waiting : (w : Waiting) → (w.frames ≡ [] → w.gone ≡ 0) → w.frames ≡ [] → w ≡ waiting_none
+none_waiting w idle none = ap (λ (l : List (List ℕ)). record { frames = l; gone = w.gone }) none ∙ ap (λ (n : ℕ). record { frames = []; gone = n }) (idle none)

@@ -12,7 +12,7 @@ use Rattle.ig_deals.specs.Deals.{Got, call_for}
 use Rattle.ig_deals.specs.Hellos.{Greeting, greeting_of}
 use Rattle.ig_deals.specs.Telling.{session_manner}
 use Rattle.ig_replies.specs.declared.terms.Terms.{Terms}
-use Rattle.ig_replies.specs.Showing.{Waiting, frames_and, after_push}
+use Rattle.ig_replies.specs.Showing.{Waiting, waiting_none, frames_and, after_push}
 use Rattle.ig_session.specs.declared.phase.Phase.{Phase}
 use Rattle.ig_session.specs.declared.phase.Phase.TheVariants.{BeforeHello, Open, Refused, OutOfMemory}
 use Rattle.ig_session.specs.declared.step.Step.{Step}
@@ -178,3 +178,16 @@ answered_one s (awaited ∷ second ∷ out) got is one = absurd (omega (arith, o
 
 pub answered_step : (s : State) (got : Got) → length s.out ≡ 1 → Answers s (answered s got)
 answered_step s got one = answered_one s s.out got refl one
+
+-- ---- less is left to do
+
+pub out_less : (old mid new : State) → (steps.Out, mid) ≡ next_step old → new ≡ record mid { waiting = waiting_none } → to_do new < to_do old
+out_less old mid new e is = omega (arith, ap to_do is, (out_step old mid e).less)
+
+pub run_less : (old mid new : State) (call : Call) (got : Got) → old.out ≡ [] → (steps.Run call, mid) ≡ next_step old → new ≡ answered mid got → (to_do new < to_do old) × (new.out ≡ [])
+run_less old mid new call got none e is =
+    let hands : HandsOut old mid = run_step old mid call e in
+    let answers : Answers mid (answered mid got) = answered_step mid got (omega (arith, hands.out, ap length none)) in (
+      omega (arith, ap to_do is, ap (λ (t : Stream). length t.rest) answers.stream, answers.frames, hands.less, ap length hands.none),
+      ap (λ (t : State). t.out) is ∙ answers.out,
+    )

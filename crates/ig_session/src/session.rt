@@ -54,13 +54,14 @@ impl Model for Session {
 }
 
 impl Session {
-    ghost use Rattle.std.specs.Prelude.{◌≡◌, ◌↔◌, ◌≤◌, ◌+◌, [], length, IfOk, OnOk, OnErr};
+    ghost use Rattle.std.specs.Prelude.{◌≡◌, ◌↔◌, ℕ, ◌≤◌, ◌+◌, [], length, IfOk, OnOk, OnErr};
     ghost use Rattle.ig_base.specs.Numbers.{AreBytes};
     ghost use Rattle.ig_replies.specs.Showing.{waiting_none, piece_shown};
     ghost use Rattle.ig_session.specs.Cfg.{IsCfg};
     ghost use Rattle.ig_session.specs.States.{new_state};
     ghost use Rattle.ig_session.specs.Soundness.{most_fed, most_held};
-    ghost use Rattle.ig_session.specs.Comings.{coming, IsPaused};
+    ghost use Rattle.ig_deals.specs.declared.end.SessionEnd.TheVariants.{Truncated};
+    ghost use Rattle.ig_session.specs.Comings.{Misses, coming, IsPaused};
     ghost use Rattle.ig_session.specs.Steps.{fed, written, end_at};
 
     /// A session that was fed nothing. It takes the room for pieces of replies, and for cursors.
@@ -109,11 +110,19 @@ impl Session {
         ensures end { result ≡ end_at self.old (coming self.old) }
         ensures same { self.new ≡ self.old }
     {
-        if let Phase::Open(_) = self.phase {
-            if self.frames.held() == 0 {
-                return SessionEnd::Ended;
-            }
+        let Phase::Open(_) = self.phase else {
+            return self.truncated();
+        };
+        if self.frames.held() == 0 {
+            return SessionEnd::Ended;
         }
+        self.truncated()
+    }
+
+    /// How the session ends if the input ends inside a frame.
+    fn truncated(&self) -> SessionEnd
+        ensures { (missing : ℕ) → coming self.now ≡ Misses missing → result ≡ Truncated missing }
+    {
         match self.frames.look(self.phase.least()) {
             Next::More { missing } => SessionEnd::Truncated { missing },
             _ => SessionEnd::Truncated { missing: 0 },
