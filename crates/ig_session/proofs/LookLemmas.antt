@@ -1,7 +1,7 @@
 -- What comes next, from what the parts of a session are.
 use Rattle.std.proofs.Common.{◌≡◌, ℕ, ℤ, List, [], ◌∷◌, if◌then◌else◌, Result, Ok, Err, refl, sym, ap, ◌∙◌}
 use Rattle.std.specs.Result.{result_map_both}
-use Rattle.ig_base.specs.Frames.{Front}
+use Rattle.ig_base.specs.Frames.{client, Front, Body, Bad, Incomplete}
 use Rattle.ig_frame.specs.Streams.{front_at}
 use Rattle.ig_wire.specs.declared.ask.AskFault.{AskFault}
 use Rattle.ig_wire.specs.declared.ask.AskFault.TheVariants as ask
@@ -16,7 +16,7 @@ use Rattle.ig_deals.specs.Hellos.{greeting_of}
 use Rattle.ig_replies.specs.declared.terms.Terms.{Terms}
 use Rattle.ig_session.specs.declared.phase.Phase.{Phase}
 use Rattle.ig_session.specs.declared.phase.Phase.TheVariants.{BeforeHello, Open, Refused, OutOfMemory}
-use Rattle.ig_session.specs.Comings.{Replies, Greets, Asks, least_in, waits, found, coming_in, coming}
+use Rattle.ig_session.specs.Comings.{Coming, Replies, Greets, Asks, least_in, waits, found, coming_in, coming}
 use Rattle.ig_session.specs.Requests.{asked_said}
 use Rattle.ig_session.specs.States.{State}
 
@@ -34,14 +34,20 @@ unfolding coming
 next_by_phase s phase none is = ap (λ (l : List (List ℕ)). if waits l then Replies else coming_in s s.phase) none ∙ ap (coming_in s) is
 
 -- what comes next doesn't depend on the desk
+same_found : (s : State) (desk : Desk) (reads : List ℕ → Coming) (f : Front) → found (record s { desk = desk }) reads f ≡ found s reads f
+same_found s desk reads (Body body rest) = refl
+same_found s desk reads (Bad n) = refl
+same_found s desk reads (Incomplete missing) = refl
+
+same_in : (s : State) (desk : Desk) (phase : Phase) → coming_in (record s { desk = desk }) phase ≡ coming_in s phase
+same_in s desk BeforeHello = same_found s desk (λ hello. Greets (greeting_of hello)) (front_at client.first s.stream)
+same_in s desk (Open terms) = same_found s desk (λ body. Asks terms (asked_in terms.version body)) (front_at client.later s.stream)
+same_in s desk (Refused fault) = refl
+same_in s desk OutOfMemory = refl
+
 pub same_coming : (s : State) (desk : Desk) → coming (record s { desk = desk }) ≡ coming s
 unfolding coming
-same_coming s desk = by s.phase where
-  by : (phase : Phase) → (if waits s.waiting.frames then Replies else coming_in (record s { desk = desk }) phase) ≡ (if waits s.waiting.frames then Replies else coming_in s phase)
-  by BeforeHello = refl
-  by (Open terms) = refl
-  by (Refused fault) = refl
-  by OutOfMemory = refl
+same_coming s desk = ap (λ (c : Coming). if waits s.waiting.frames then Replies else c) (same_in s desk s.phase)
 
 -- ---- what stands at the place of the stream
 

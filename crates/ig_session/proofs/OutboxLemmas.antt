@@ -1,8 +1,8 @@
 -- What waits in an outbox.
 use Rattle.std.proofs.Common.{◌≡◌, inl, inr, ℕ, ◌+◌, ◌-◌, ◌<◌, ◌≤◌, List, [], ◌∷◌, ◌++◌, length, take, drop, refl, sym, ap, ◌∙◌, arith}
-use Rattle.std.specs.Prelude.{◌%◌, nat_lt, if◌then◌else◌}
+use Rattle.std.specs.Prelude.{◌%◌, ◌↔◌, true, false, IsTrue, nat_lt, if◌then◌else◌}
 use Rattle.std.proofs.lemmas.Bool.{le-ltb, lt-ltb, cond-true, cond-false, cases_lt}
-use Rattle.std.proofs.lemmas.List.{length-drop, take_all}
+use Rattle.std.proofs.lemmas.List.{length-drop, take_all, take_rest}
 use Rattle.ig_wire.specs.Limits.{piece_bytes}
 use Rattle.ig_deals.specs.Pieces.{piece_left, piece_at}
 use Rattle.ig_replies.specs.Showing.{Waiting, piece_shown, after_gone, after_push, frames_and}
@@ -65,3 +65,30 @@ push_first replies frame zero = by replies.frames where
   by : (frames : List (List ℕ)) → (frames_and frames replies.gone frame).gone ≡ 0
   by [] = refl
   by (first ∷ frames) = zero
+
+-- ---- what the calls answer, by whether bytes of the reply to the hello are left
+
+clash : false ≡ true → ⊥
+clash e = cc
+
+some_first : (hello : List ℕ) (frames : List (List ℕ)) → hello ∷ frames ≡ [] → ⊥
+some_first hello frames e = cc
+
+module _ (hello : List ℕ) (gone : ℕ) (replies now : Waiting) (is : waiting_after hello gone replies ≡ now) where
+  frames_first : gone < length hello → now.frames ≡ hello ∷ replies.frames
+  frames_first lt = ap (λ (w : Waiting). w.frames) (sym is ∙ hello_first hello gone replies lt)
+
+  pub empty_hello : gone < length hello → IsTrue false ↔ (now.frames ≡ [])
+  empty_hello lt = (λ e. absurd (clash e), λ e. absurd (some_first hello replies.frames (sym (frames_first lt) ∙ e)))
+
+  pub replies_are : length hello ≤ gone → replies ≡ now
+  replies_are le = sym (hello_gone hello gone replies le) ∙ is
+
+  pub shown_hello : (seen : List ℕ) → seen ≡ hello → length hello ≤ piece_bytes → gone < length hello → take (length seen - gone) (drop gone seen) ≡ piece_shown now
+  shown_hello seen same short lt = take_rest seen gone ∙ ap (drop gone) same ∙ sym (hello_piece hello gone replies short lt) ∙ ap piece_shown is
+
+  pub end_hello : (seen : List ℕ) → seen ≡ hello → gone < length hello → (take (length seen - gone) (drop gone seen) ≡ []) ↔ (now.frames ≡ [])
+  end_hello seen same lt = (
+    λ e. absurd (omega (arith, lt, length-drop gone hello, ap length (sym (take_rest seen gone ∙ ap (drop gone) same) ∙ e))),
+    λ e. absurd (some_first hello replies.frames (sym (frames_first lt) ∙ e)),
+  )

@@ -39,23 +39,24 @@ use Rattle.ig_session.proofs.ComingLemmas.{HelloIn, hello_comes, RequestIn, requ
 
 -- ---- what waits
 
+abbrev first_or_next : Bool → List ℕ → List (List ℕ) → ℕ → Waiting
+first_or_next first frame frames gone = if first then record { frames = frame ∷ frames; gone = gone } else record { frames = frames; gone = 0 }
+
+idle_by : (first : Bool) (frame : List ℕ) (frames : List (List ℕ)) (gone : ℕ) → (first_or_next first frame frames gone).frames ≡ [] → (first_or_next first frame frames gone).gone ≡ 0
+idle_by true frame frames gone e = absurd cc
+idle_by false frame frames gone e = refl
+
 -- where no frame is left, nothing is gone
 frames_idle : (frames : List (List ℕ)) (gone : ℕ) → (frames_when frames gone).frames ≡ [] → (frames_when frames gone).gone ≡ 0
 frames_idle [] gone e = refl
-frames_idle (frame ∷ frames) gone e = by (nat_lt gone (length frame)) e where
-  abbrev either : Bool → Waiting
-  either b = if b then record { frames = frame ∷ frames; gone = gone } else record { frames = frames; gone = 0 }
-
-  by : (b : Bool) → (either b).frames ≡ [] → (either b).gone ≡ 0
-  by true e = cc
-  by false e = refl
+frames_idle (frame ∷ frames) gone e = idle_by (nat_lt gone (length frame)) frame frames gone e
 
 pub gone_idle : (w : Waiting) (n : ℕ) → (after_gone w n).frames ≡ [] → (after_gone w n).gone ≡ 0
 gone_idle w n e = frames_idle w.frames (w.gone + n) e
 
 and_idle : (frames : List (List ℕ)) (gone : ℕ) (frame : List ℕ) → (frames_and frames gone frame).frames ≡ [] → (frames_and frames gone frame).gone ≡ 0
 and_idle [] gone frame e = refl
-and_idle (first ∷ frames) gone frame e = cc
+and_idle (first ∷ frames) gone frame e = absurd cc
 
 pub push_idle : (w : Waiting) (frame : List ℕ) → (after_push w frame).frames ≡ [] → (after_push w frame).gone ≡ 0
 push_idle w frame e = and_idle w.frames w.gone frame e

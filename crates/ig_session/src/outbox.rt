@@ -34,10 +34,11 @@ impl Outbox {
     pub(crate) fn new(alloc: Global) -> Result<Outbox, NoMemory>
         ensures { IfOk result (λ outbox. outbox ≡ waiting_none) }
     {
+        let replies = Queue::new(alloc)?;
         Ok(Outbox {
             hello: Octets::empty(alloc),
             gone: 0,
-            replies: Queue::new(alloc)?,
+            replies,
         })
     }
 

@@ -69,15 +69,17 @@ impl Session {
         requires { IsCfg cfg }
         ensures { IfOk result (λ session. session ≡ new_state cfg) }
     {
+        let desk = Desk::new(alloc)?;
+        let outbox = Outbox::new(alloc)?;
         Ok(Session {
             alloc,
             cfg,
             frames: Frames::new(alloc, MAX_FRAME),
             phase: Phase::BeforeHello,
-            desk: Desk::new(alloc)?,
+            desk,
             out: Vec::new(alloc),
             handed: 0,
-            outbox: Outbox::new(alloc)?,
+            outbox,
         })
     }
 
