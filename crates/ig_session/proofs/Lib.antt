@@ -2,6 +2,7 @@ pub mod HistoryLemmas
 pub mod ComingLemmas
 pub mod SoundLemmas
 pub mod ChangeLemmas
+pub mod HelloFrameLemmas
 pub mod FrontLemmas
 pub mod LookLemmas
 pub mod RequestLemmas
