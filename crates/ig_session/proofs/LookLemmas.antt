@@ -51,7 +51,7 @@ same_coming s desk = ap (λ (c : Coming). if waits s.waiting.frames then Replies
 
 -- ---- what stands at the place of the stream
 
-front_here : (held now : State) (least : ℕ) (phase : Phase) (f : Front) → held ≡ now → least ≡ least_in held.phase → now.phase ≡ phase → front_at least held.stream ≡ f
+pub front_here : (held now : State) (least : ℕ) (phase : Phase) (f : Front) → held ≡ now → least ≡ least_in held.phase → now.phase ≡ phase → front_at least held.stream ≡ f
     → front_at (least_in phase) now.stream ≡ f
 front_here held now least phase f is l p e =
     ap (λ (q : Phase). front_at (least_in q) now.stream) (sym p) ∙ sym (ap (λ (s : State). front_at (least_in s.phase) s.stream) is)

@@ -69,15 +69,17 @@ impl Session {
         requires { IsCfg cfg }
         ensures { IfOk result (λ session. session ≡ new_state cfg) }
     {
+        let frames = Frames::new(alloc, MAX_FRAME);
         let desk = Desk::new(alloc)?;
+        let out = Vec::new(alloc);
         let outbox = Outbox::new(alloc)?;
         Ok(Session {
             alloc,
             cfg,
-            frames: Frames::new(alloc, MAX_FRAME),
+            frames,
             phase: Phase::BeforeHello,
             desk,
-            out: Vec::new(alloc),
+            out,
             handed: 0,
             outbox,
         })
@@ -127,7 +129,8 @@ impl Session {
     {
         match self.frames.look(self.phase.least()) {
             Next::More { missing } => SessionEnd::Truncated { missing },
-            _ => SessionEnd::Truncated { missing: 0 },
+            Next::Bad { .. } => SessionEnd::Truncated { missing: 0 },
+            Next::Frame { .. } => SessionEnd::Truncated { missing: 0 },
         }
     }
 

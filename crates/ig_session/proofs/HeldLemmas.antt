@@ -1,0 +1,81 @@
+-- What each call on a session answers, from what its parts answer. `held` are the parts, and `now` is the session.
+use Rattle.std.proofs.Common.{◌≡◌, ℕ, ◌+◌, ◌≤◌, List, [], ◌∷◌, length, Result, Ok, Err, refl, sym, ap, ◌∙◌, subst, arith}
+use Rattle.std.specs.Prelude.{◌↔◌, Bool, true, false, IsTrue, OnOk, OnErr}
+use Rattle.ig_base.specs.Frames.{Front, Body, Bad, Incomplete}
+use Rattle.ig_frame.specs.Streams.{Stream, front_at, longer_stream}
+use Rattle.ig_deals.specs.declared.end.SessionEnd.{SessionEnd}
+use Rattle.ig_deals.specs.declared.end.SessionEnd.TheVariants as ends
+use Rattle.ig_replies.specs.declared.terms.Terms.{Terms}
+use Rattle.ig_replies.specs.Showing.{Waiting, waiting_none, piece_shown}
+use Rattle.ig_session.specs.declared.phase.Phase.{Phase}
+use Rattle.ig_session.specs.declared.phase.Phase.TheVariants.{BeforeHello, Open, Refused, OutOfMemory}
+use Rattle.ig_session.specs.States.{State}
+use Rattle.ig_session.specs.Comings.{Coming, Replies, Misses, least_in, coming, IsPaused}
+use Rattle.ig_session.specs.Soundness.{most_fed, IsSound}
+use Rattle.ig_session.specs.Steps.{fed, end_after, end_at}
+use Rattle.ig_session.proofs.ComingLemmas.{MissesIn, misses}
+use Rattle.ig_session.proofs.SoundLemmas.{fed_sound}
+use Rattle.ig_session.proofs.LookLemmas.{replies_first, front_here}
+use Rattle.ig_session.proofs.ChangeLemmas.{fed_either, truncated_other, truncated_inside, ended_open, none_waiting}
+
+module _ (held now : State) (is : held ≡ now) where
+  -- ---- the input
+
+  pub fed_keeps : {A E : Type 0} (result : Result A E) (stream : Stream) (piece : List ℕ) → OnOk result (stream ≡ longer_stream held.stream piece) → OnErr result (stream ≡ held.stream)
+      → now.stream.place + length now.stream.rest + length piece ≤ most_fed → IsSound held → IsSound (record held { stream = stream })
+  fed_keeps result stream piece ok err le sound =
+      fed_either result held stream piece ok err (subst (λ (s : State). s.stream.place + length s.stream.rest + length piece ≤ most_fed) (sym is) le) sound
+
+  pub fed_ok : {A E : Type 0} (result : Result A E) (stream : Stream) (piece : List ℕ) → OnOk result (stream ≡ longer_stream held.stream piece)
+      → OnOk result (record held { stream = stream } ≡ fed now piece)
+  fed_ok (Ok done) stream piece ok = ap (λ (x : Stream). record held { stream = x }) ok ∙ ap (λ (s : State). fed s piece) is
+  fed_ok (Err lack) stream piece ok = tt
+
+  pub fed_err : {A E : Type 0} (result : Result A E) (stream : Stream) → OnErr result (stream ≡ held.stream) → OnErr result (record held { stream = stream } ≡ now)
+  fed_err (Ok done) stream err = tt
+  fed_err (Err lack) stream err = ap (λ (x : Stream). record held { stream = x }) err ∙ is
+
+  -- ---- the output
+
+  pub waiting_end : (shown : List ℕ) → IsSound held → (shown ≡ []) ↔ (held.waiting.frames ≡ []) → (shown ≡ []) ↔ (now.waiting ≡ waiting_none)
+  waiting_end shown sound both = (
+    λ e. ap (λ (s : State). s.waiting) (sym is) ∙ none_waiting held.waiting sound.idle (both.0 e),
+    λ e. both.1 (ap (λ (s : State). s.waiting.frames) is ∙ ap (λ (w : Waiting). w.frames) e),
+  )
+
+  pub none_now : (empty : Bool) → IsTrue empty ↔ (held.waiting.frames ≡ []) → empty ≡ true → now.waiting.frames ≡ []
+  none_now empty both e = ap (λ (s : State). s.waiting.frames) (sym is) ∙ both.0 e
+
+  clash : false ≡ true → ⊥
+  clash e = cc
+
+  pub replies_now : (empty : Bool) → IsTrue empty ↔ (held.waiting.frames ≡ []) → empty ≡ false → Replies ≡ coming now
+  replies_now empty both e = sym (replies_first now (λ none. clash (sym e ∙ both.1 (ap (λ (s : State). s.waiting.frames) is ∙ none))))
+
+  -- ---- the end of the input
+
+  part_here : (least missing : ℕ) → least ≡ least_in held.phase → coming now ≡ Misses missing → front_at least held.stream ≡ Incomplete missing
+  part_here least missing l comes =
+      let at : MissesIn now now.phase missing = misses now missing comes in
+      let same : front_at (least_in now.phase) now.stream ≡ front_at least held.stream = front_here held now least now.phase (front_at least held.stream) is l refl refl in
+      sym same ∙ at.part
+
+  pub truncated_more : (least n missing : ℕ) → least ≡ least_in held.phase → front_at least held.stream ≡ Incomplete n → coming now ≡ Misses missing → ends.Truncated n ≡ ends.Truncated missing
+  truncated_more least n missing l found comes =
+      let both : Incomplete n ≡ Incomplete missing = sym found ∙ part_here least missing l comes in
+      let same : n ≡ missing = cc in ap ends.Truncated same
+
+  pub truncated_never : {E : Type 0} (least missing : ℕ) (f : Front) → least ≡ least_in held.phase → front_at least held.stream ≡ f → ((n : ℕ) → f ≡ Incomplete n → ⊥) → coming now ≡ Misses missing → E
+  truncated_never least missing f l found no comes = absurd (no missing (sym found ∙ part_here least missing l comes))
+
+-- ---- how the session ends
+
+pub end_other : (now : State) (end : SessionEnd) → IsPaused now → ((missing : ℕ) → coming now ≡ Misses missing → end ≡ ends.Truncated missing) → ((terms : Terms) → now.phase ≡ Open terms → ⊥)
+    → end ≡ end_at now (coming now)
+end_other now end paused truncated no = truncated paused.0 paused.1 ∙ sym (ap (end_at now) paused.1 ∙ truncated_other now.phase now.stream.rest paused.0 no)
+
+pub end_inside : (now : State) (end : SessionEnd) → IsPaused now → ((missing : ℕ) → coming now ≡ Misses missing → end ≡ ends.Truncated missing) → (now.stream.rest ≡ [] → ⊥) → end ≡ end_at now (coming now)
+end_inside now end paused truncated some = truncated paused.0 paused.1 ∙ sym (ap (end_at now) paused.1 ∙ truncated_inside now.phase now.stream.rest paused.0 some)
+
+pub end_open : (now : State) (terms : Terms) → IsPaused now → now.phase ≡ Open terms → now.stream.rest ≡ [] → ends.Ended ≡ end_at now (coming now)
+end_open now terms paused is none = sym (ap (end_at now) paused.1 ∙ ended_open now.phase terms now.stream.rest paused.0 is none)
