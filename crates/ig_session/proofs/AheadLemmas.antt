@@ -1,127 +1,223 @@
--- The steps of a session of which several calls may be out.
-use Rattle.std.proofs.Common.{◌≡◌, ◌⊎◌, ℕ, Bool, true, false, List, [], ◌∷◌, Result, Ok, Err, refl, sym, ap, ◌∙◌, subst, inl, inr}
-use Rattle.std.specs.Prelude.{◌&&◌, ◌||◌, if◌then◌else◌}
-use Rattle.std.proofs.lemmas.Bool.{cases_Bool}
-use Rattle.ig_base.specs.Frames.{client, Front, Body, Bad, Incomplete}
-use Rattle.ig_frame.specs.Streams.{front_at}
-use Rattle.ig_deals.specs.declared.end.SessionEnd.{SessionEnd}
-use Rattle.ig_deals.specs.declared.end.SessionEnd.TheVariants as ends
-use Rattle.ig_deals.specs.Asks.{Asked, asked_in}
-use Rattle.ig_deals.specs.Hellos.{Greeting, greeting_of}
-use Rattle.ig_replies.specs.declared.terms.Terms.{Terms}
-use Rattle.ig_session.specs.declared.phase.Phase.{Phase}
-use Rattle.ig_session.specs.declared.phase.Phase.TheVariants.{BeforeHello, Open, Refused, OutOfMemory}
-use Rattle.ig_session.specs.declared.step.Ahead.{Ahead}
-use Rattle.ig_session.specs.declared.step.Ahead.TheVariants as steps
-use Rattle.ig_session.specs.declared.awaited.Awaited.{Awaited}
-use Rattle.ig_session.specs.States.{State}
-use Rattle.ig_session.specs.Comings.{Coming, Replies, Stops, Misses, Greets, Asks, found, coming_in, coming}
-use Rattle.ig_session.specs.StepsAhead.{waits_for_all, has_out, is_full, is_held_up, step_on, step_ahead_to, step_ahead, stop_or_wait}
-use Rattle.ig_session.proofs.LookLemmas.{replies_first, next_by_phase}
+-- What each step keeps of what a session stands for whose calls are answered in any order: the input and the output.
+use Rattle.std.proofs.Common.{◌≡◌, ◌≢◌, inl, inr, ℕ, zero, suc, ◌+◌, ◌<◌, ◌≤◌, List, [], ◌∷◌, ◌++◌, map, length, take, drop, Option, None, Some, Result, Ok, Err, refl, sym, ap, ◌∙◌, subst, arith, append-nil, append_assoc}
+use Rattle.std.specs.Prelude.{Contains, slice_get, min, nat_lt}
+use Rattle.std.proofs.lemmas.Bool.{le-ltb, lt-ltb, cond-true, cond-false, cases_lt}
+use Rattle.std.proofs.lemmas.List.{length-map, length-take, length-drop, take-take, take_all, take-append-drop, drop-drop, map-append}
+use Rattle.ig_base.specs.Numbers.{AreBytes}
+use Rattle.ig_base.specs.Frames.{client}
+use Rattle.ig_base.proofs.FrameLemmas.{Begins-start, Begins-more, append_bytes}
+use Rattle.ig_wire.specs.declared.version.Version.{Version}
+use Rattle.ig_wire.specs.declared.hello.Hello.{Hello}
+use Rattle.ig_frame.specs.Streams.{Stream, HandedOut}
+use Rattle.ig_deals.specs.declared.cfg.SessionCfg.{SessionCfg}
+use Rattle.ig_deals.specs.declared.manner.Manner.TheVariants.{AtChanges}
+use Rattle.ig_deals.specs.Hellos.{Greeting, greeting_of, hello_frame}
+use Rattle.ig_deals.specs.Asks.{Asked}
+use Rattle.ig_deals.specs.Deals.{Got, Deal}
+use Rattle.ig_deals.specs.Desk.{Desk, fresh_desk}
+use Rattle.ig_deals.specs.Telling.{crew_manner}
+use Rattle.ig_deals.specs.Replies.{Reply, reply_frame}
+use Rattle.ig_deals.specs.Turns.{Terms, turn}
+use Rattle.ig_deals.specs.OutFrames.{replies, desk_after, reply_frames, terms_at}
+use Rattle.ig_deals.specs.Pieces.{piece_left, piece_at}
+use Rattle.ig_deals.specs.Serves.{joined}
+use Rattle.ig_deals.specs.Laws.{IsApart}
+use Rattle.ig_deals.proofs.ApartLemmas.{own_reply}
+use Rattle.ig_deals.proofs.ReplyLemmas.{replies-append, reply_frames-append}
+use Rattle.ig_replies.specs.Showing.{Waiting, left_of, bytes_left, piece_of, piece_shown, frames_when, after_gone, frames_and, after_push}
+use Rattle.ig_session.specs.States.{State, new_state}
+use Rattle.ig_session.specs.Steps.{fed, written}
+use Rattle.ig_session.specs.StandsAhead.{HandedAhead, IsDue, in_order, frames_ahead, out_ahead, StandsAhead}
+use Rattle.ig_session.proofs.StandLemmas.{joined-append}
+use Rattle.ig_session.proofs.ApartLemmas.{desk_apart, crew_tells}
+use Rattle.ig_session.proofs.PlaceLemmas.{at_end, at_other, at_first, in_order_same, in_order_more}
 
--- ---- no more calls may be out
+-- ---- the input
 
-module _ (limit : ℕ) (s : State) (full : is_full limit s.out ≡ true) where
-  held_up : (next : Coming) → is_held_up limit s.out next ≡ true
-  held_up next = ap (λ (b : Bool). b || (has_out s.out && waits_for_all next)) full
+no_deal : (before after : List Deal) (deal : Deal) → [] ≡ before ++ deal ∷ after → ⊥
+no_deal [] after deal e = cc
+no_deal (first ∷ before) after deal e = cc
 
-  waits_now : (next : Coming) → (if is_held_up limit s.out next then (steps.Wait, s) else step_on s next) ≡ (steps.Wait, s)
-  waits_now next = ap (λ (b : Bool). if b then (steps.Wait, s) else step_on s next) (held_up next)
+no_due : (place : ℕ) → IsDue (slice_get [] place) → ⊥
+no_due place due = due
 
-  full_hello : (f : Front) → step_ahead_to limit s (found s (λ hello. Greets (greeting_of hello)) f) ≡ (steps.Wait, s)
-  full_hello (Body body rest) = waits_now (Greets (greeting_of body))
-  full_hello (Bad n) = waits_now (Stops (ends.BadFrame s.stream.place n))
-  full_hello (Incomplete missing) = waits_now (Misses missing)
+pub new_stands_ahead : (cfg : SessionCfg) → StandsAhead (new_state cfg) [] [] [] []
+new_stands_ahead cfg = record {
+  bodies = [];
+  read = record { begins = Begins-start client []; place = refl };
+  are_bytes = λ i. omega arith;
+  handed_out = refl;
+  out = refl;
+  count = refl;
+  phase = (refl, refl);
+  alone = λ before after deal e looks due. absurd (no_deal before after deal e);
+  order_is = tt;
+  each = λ place due. absurd (no_due place due);
+  shows = refl;
+}
 
-  full_request : (terms : Terms) (f : Front) → step_ahead_to limit s (found s (λ body. Asks terms (asked_in terms.version body)) f) ≡ (steps.Wait, s)
-  full_request terms (Body body rest) = waits_now (Asks terms (asked_in terms.version body))
-  full_request terms (Bad n) = waits_now (Stops (ends.BadFrame s.stream.place n))
-  full_request terms (Incomplete missing) = waits_now (Misses missing)
+pub fed_stands_ahead : (s : State) (input piece : List ℕ) (ran : List HandedAhead) (order output : List ℕ) → AreBytes piece
+    → StandsAhead s input ran order output → StandsAhead (fed s piece) (input ++ piece) ran order output
+fed_stands_ahead s input piece ran order output are stood = record {
+  bodies = stood.bodies;
+  read = record { begins = Begins-more stood.read.begins piece; place = stood.read.place };
+  are_bytes = append_bytes s.stream.rest piece stood.are_bytes are;
+  handed_out = stood.handed_out;
+  out = stood.out;
+  count = stood.count;
+  phase = stood.phase;
+  alone = stood.alone;
+  order_is = stood.order_is;
+  each = stood.each;
+  shows = stood.shows;
+}
 
-  full_phase : (phase : Phase) → step_ahead_to limit s (coming_in s phase) ≡ (stop_or_wait phase, s)
-  full_phase BeforeHello = full_hello (front_at client.first s.stream)
-  full_phase (Open terms) = full_request terms (front_at client.later s.stream)
-  full_phase (Refused fault) = waits_now (Stops (ends.HelloRefused fault))
-  full_phase OutOfMemory = refl
+-- ---- what is written
 
--- nothing waits: the session stops, or an answer is awaited
-pub full_steps : (limit : ℕ) (s : State) → s.waiting.frames ≡ [] → is_full limit s.out ≡ true → (stop_or_wait s.phase, s) ≡ step_ahead limit s
-full_steps limit s none full = sym (ap (step_ahead_to limit s) (next_by_phase s s.phase none refl) ∙ full_phase limit s full s.phase)
+-- the bytes that are left when some of the piece that is shown are gone
+left_when : (frames : List (List ℕ)) (gone n : ℕ) → n ≤ length (piece_of frames gone) → take n (piece_of frames gone) ++ bytes_left (frames_when frames (gone + n)) ≡ left_of frames gone
+left_when [] gone n le = append-nil (take n []) ∙ take_all n [] (omega arith)
+left_when (frame ∷ others) gone n le =
+    let len : length (piece_at frame gone) ≡ min (piece_left gone) (length (drop gone frame)) = length-take (piece_left gone) (drop gone frame) in
+    let piece : take n (piece_at frame gone) ≡ take n (drop gone frame) = take-take n (piece_left gone) (drop gone frame) (omega (arith, len, le)) in
+    elim (cases_lt (gone + n) (length frame)) [
+      | inl less ↦
+          let stays = cond-true (nat_lt (gone + n) (length frame)) (record { frames = frame ∷ others; gone = gone + n }) (record { frames = others; gone = 0 }) (lt-ltb (gone + n) (length frame) less) in
+          ap (λ (w : Waiting). take n (piece_at frame gone) ++ bytes_left w) stays
+          ∙ ap (λ (l : List ℕ). l ++ drop (gone + n) frame ++ joined others) piece
+          ∙ sym (append_assoc (take n (drop gone frame)) (drop (gone + n) frame) (joined others))
+          ∙ ap (λ (l : List ℕ). l ++ joined others) (
+          ap (λ (l : List ℕ). take n (drop gone frame) ++ l) (ap (λ k. drop k frame) (omega arith) ∙ sym (drop-drop n gone frame))
+          ∙ take-append-drop n (drop gone frame)
+          )
+      | inr over ↦
+          let goes = cond-false (nat_lt (gone + n) (length frame)) (record { frames = frame ∷ others; gone = gone + n }) (record { frames = others; gone = 0 }) (le-ltb (gone + n) (length frame) over) in
+          ap (λ (w : Waiting). take n (piece_at frame gone) ++ bytes_left w) goes
+          ∙ ap (λ (l : List ℕ). l ++ left_of others 0) (piece ∙ take_all n (drop gone frame) (omega (arith, over, length-drop gone frame)))
+          ∙ ap (λ (l : List ℕ). drop gone frame ++ l) (none_gone others)
+    ] where
+      none_gone : (l : List (List ℕ)) → left_of l 0 ≡ joined l
+      none_gone [] = refl
+      none_gone (f ∷ l) = refl
 
--- ---- all calls are waited for
+pub written_stands_ahead : (s : State) (input : List ℕ) (ran : List HandedAhead) (order output : List ℕ) (n : ℕ) → n ≤ length (piece_shown s.waiting)
+    → StandsAhead s input ran order output → StandsAhead (written s n) input ran order (output ++ take n (piece_shown s.waiting))
+written_stands_ahead s input ran order output n le stood = record {
+  bodies = stood.bodies;
+  read = stood.read;
+  are_bytes = stood.are_bytes;
+  handed_out = stood.handed_out;
+  out = stood.out;
+  count = stood.count;
+  phase = stood.phase;
+  alone = stood.alone;
+  order_is = stood.order_is;
+  each = stood.each;
+  shows = append_assoc output (take n (piece_shown s.waiting)) (bytes_left (after_gone s.waiting n))
+      ∙ ap (λ (l : List ℕ). output ++ l) (left_when s.waiting.frames s.waiting.gone n le) ∙ stood.shows;
+}
 
-some_out : (out : List Awaited) → (out ≡ [] → ⊥) → has_out out ≡ true
-some_out [] some = absurd (some refl)
-some_out (a ∷ out) some = refl
+-- a frame that waits after the others
+left_and : (frames : List (List ℕ)) (gone : ℕ) (frame : List ℕ) → bytes_left (frames_and frames gone frame) ≡ left_of frames gone ++ frame
+left_and [] gone frame = append-nil frame
+left_and (first ∷ frames) gone frame =
+    ap (λ (l : List ℕ). drop gone first ++ l) (joined-append frames (frame ∷ []) ∙ ap (λ (l : List ℕ). joined frames ++ l) (append-nil frame))
+    ∙ sym (append_assoc (drop gone first) (joined frames) frame)
 
-none_out : (out : List Awaited) → out ≡ [] → has_out out ≡ false
-none_out [] none = refl
-none_out (a ∷ out) none = absurd cc
+-- one more frame is shown
+pub one_more_shown : (frames more : List (List ℕ)) (w : Waiting) (frame output : List ℕ) → more ≡ frames ++ frame ∷ [] → output ++ bytes_left w ≡ joined frames
+    → output ++ bytes_left (after_push w frame) ≡ joined more
+one_more_shown frames more w frame output e so =
+    ap (λ (l : List ℕ). output ++ l) (left_and w.frames w.gone frame) ∙ sym (append_assoc output (bytes_left w) frame) ∙ ap (λ (l : List ℕ). l ++ frame) so
+    ∙ sym (ap joined e ∙ joined-append frames (frame ∷ []) ∙ ap (λ (l : List ℕ). joined frames ++ l) (append-nil frame))
 
-or_true : (a b : Bool) → b ≡ true → (a || b) ≡ true
-or_true true b h = refl
-or_true false b h = h
+-- ---- the frames of replies
 
-module _ (limit : ℕ) (s : State) where
-  both_hold : (next : Coming) → has_out s.out ≡ true → waits_for_all next ≡ true → is_held_up limit s.out next ≡ true
-  both_hold next out waits = or_true (is_full limit s.out) (has_out s.out && waits_for_all next) (ap (λ (b : Bool). b && waits_for_all next) out ∙ waits)
+pub length_frames : (terms : Terms) (desk : Desk) (deals : List Deal) → length (reply_frames terms desk deals) ≡ length deals
+length_frames terms desk deals = length-map (replies terms desk deals) (reply_frame terms.version) ∙ as_many desk deals where
+  as_many : (desk : Desk) (deals : List Deal) → length (replies terms desk deals) ≡ length deals
+  as_many desk [] = refl
+  as_many desk (deal ∷ deals) = omega (arith, as_many (turn terms desk deal).desk deals)
 
-  waits_then : (next : Coming) → has_out s.out ≡ true → waits_for_all next ≡ true → (if is_held_up limit s.out next then (steps.Wait, s) else step_on s next) ≡ (steps.Wait, s)
-  waits_then next out waits = ap (λ (b : Bool). if b then (steps.Wait, s) else step_on s next) (both_hold next out waits)
+-- the terms of a session whose calls are answered in any order
+abbrev pub ahead_terms : SessionCfg → Version → Terms
+ahead_terms cfg v = terms_at cfg crew_manner v
 
-  all_awaited : (next : Coming) → has_out s.out ≡ true → waits_for_all next ≡ true → step_ahead_to limit s next ≡ (steps.Wait, s)
-  all_awaited Replies out waits = absurd cc
-  all_awaited (Stops ends.NoMemory) out waits = absurd cc
-  all_awaited (Stops ends.Ended) out waits = waits_then (Stops ends.Ended) out waits
-  all_awaited (Stops (ends.Truncated missing)) out waits = waits_then (Stops (ends.Truncated missing)) out waits
-  all_awaited (Stops (ends.BadFrame place n)) out waits = waits_then (Stops (ends.BadFrame place n)) out waits
-  all_awaited (Stops (ends.HelloRefused fault)) out waits = waits_then (Stops (ends.HelloRefused fault)) out waits
-  all_awaited (Stops ends.ReadFault) out waits = waits_then (Stops ends.ReadFault) out waits
-  all_awaited (Stops ends.WriteFault) out waits = waits_then (Stops ends.WriteFault) out waits
-  all_awaited (Stops ends.ByteLimit) out waits = waits_then (Stops ends.ByteLimit) out waits
-  all_awaited (Misses missing) out waits = absurd cc
-  all_awaited (Greets greeting) out waits = absurd cc
-  all_awaited (Asks terms asked) out waits = waits_then (Asks terms asked) out waits
+abbrev pub frames_at : SessionCfg → Version → List Deal → List (List ℕ)
+frames_at cfg v deals = reply_frames (ahead_terms cfg v) fresh_desk deals
 
-  -- ---- it goes on
+-- the frame of a reply that depends on no desk
+abbrev pub own_frame : SessionCfg → Version → Deal → List ℕ
+own_frame cfg v deal = reply_frame v (turn (ahead_terms cfg v) fresh_desk deal).reply
 
-  free : (next : Coming) → is_full limit s.out ≡ false → (has_out s.out && waits_for_all next) ≡ false → is_held_up limit s.out next ≡ false
-  free next full none = ap (λ (b : Bool). b || (has_out s.out && waits_for_all next)) full ∙ none
+-- the frames around that of a request which looks at no cursor
+pub frames_around : (cfg : SessionCfg) (v : Version) (before after : List Deal) (deal : Deal) → IsApart deal.asked.request
+    → frames_at cfg v (before ++ deal ∷ after)
+    ≡ frames_at cfg v before ++ own_frame cfg v deal ∷ reply_frames (ahead_terms cfg v) (desk_after (ahead_terms cfg v) fresh_desk before) after
+frames_around cfg v before after deal is =
+    ap (map (reply_frame v)) (own_reply (ahead_terms cfg v) fresh_desk before after deal (crew_tells v) is)
+    ∙ map-append (reply_frame v) (replies (ahead_terms cfg v) fresh_desk before)
+    ((turn (ahead_terms cfg v) fresh_desk deal).reply ∷ replies (ahead_terms cfg v) (desk_after (ahead_terms cfg v) fresh_desk before) after)
 
-  goes_then : (next : Coming) → is_full limit s.out ≡ false → (has_out s.out && waits_for_all next) ≡ false
-      → (if is_held_up limit s.out next then (steps.Wait, s) else step_on s next) ≡ step_on s next
-  goes_then next full none = ap (λ (b : Bool). if b then (steps.Wait, s) else step_on s next) (free next full none)
+-- its place
+pub frame_there : (cfg : SessionCfg) (v : Version) (before after : List Deal) (deal : Deal) → IsApart deal.asked.request
+    → slice_get (frames_at cfg v (before ++ deal ∷ after)) (length before) ≡ Some (own_frame cfg v deal)
+frame_there cfg v before after deal is =
+    let later : List (List ℕ) = reply_frames (ahead_terms cfg v) (desk_after (ahead_terms cfg v) fresh_desk before) after in
+    ap (λ (l : List (List ℕ)). slice_get l (length before)) (frames_around cfg v before after deal is)
+    ∙ ap (slice_get (frames_at cfg v before ++ own_frame cfg v deal ∷ later)) (sym (length_frames (ahead_terms cfg v) fresh_desk before))
+    ∙ at_end (frames_at cfg v before) (own_frame cfg v deal) later
 
-  goes_on : (next : Coming) → is_full limit s.out ≡ false → (has_out s.out && waits_for_all next) ≡ false → step_ahead_to limit s next ≡ step_on s next
-  goes_on Replies full none = refl
-  goes_on (Stops ends.NoMemory) full none = refl
-  goes_on (Stops ends.Ended) full none = goes_then (Stops ends.Ended) full none
-  goes_on (Stops (ends.Truncated missing)) full none = goes_then (Stops (ends.Truncated missing)) full none
-  goes_on (Stops (ends.BadFrame place n)) full none = goes_then (Stops (ends.BadFrame place n)) full none
-  goes_on (Stops (ends.HelloRefused fault)) full none = goes_then (Stops (ends.HelloRefused fault)) full none
-  goes_on (Stops ends.ReadFault) full none = goes_then (Stops ends.ReadFault) full none
-  goes_on (Stops ends.WriteFault) full none = goes_then (Stops ends.WriteFault) full none
-  goes_on (Stops ends.ByteLimit) full none = goes_then (Stops ends.ByteLimit) full none
-  goes_on (Misses missing) full none = goes_then (Misses missing) full none
-  goes_on (Greets greeting) full none = goes_then (Greets greeting) full none
-  goes_on (Asks terms asked) full none = goes_then (Asks terms asked) full none
+-- the others are the same, whatever was given for it
+pub frames_beside : (cfg : SessionCfg) (v : Version) (before after : List Deal) (asked : Asked) (one other : Option Got) (place : ℕ) → IsApart asked.request → (place ≡ length before → ⊥)
+    → slice_get (frames_at cfg v (before ++ record { asked = asked; got = one } ∷ after)) place ≡ slice_get (frames_at cfg v (before ++ record { asked = asked; got = other } ∷ after)) place
+frames_beside cfg v before after asked one other place is no =
+    let later : List (List ℕ) = reply_frames (ahead_terms cfg v) (desk_after (ahead_terms cfg v) fresh_desk before) after in
+    ap (λ (l : List (List ℕ)). slice_get l place) (frames_around cfg v before after (record { asked = asked; got = one }) is)
+    ∙ at_other (frames_at cfg v before) (own_frame cfg v (record { asked = asked; got = one })) (own_frame cfg v (record { asked = asked; got = other })) later place
+    (λ e. no (e ∙ length_frames (ahead_terms cfg v) fresh_desk before))
+    ∙ sym (ap (λ (l : List (List ℕ)). slice_get l place) (frames_around cfg v before after (record { asked = asked; got = other }) is))
 
--- some call is out, and what comes next waits for all
-pub awaits_all : (limit : ℕ) (s : State) (next : Coming) → next ≡ coming s → (s.out ≡ [] → ⊥) → waits_for_all next ≡ true → (steps.Wait, s) ≡ step_ahead limit s
-awaits_all limit s next is some waits = sym (ap (step_ahead_to limit s) (sym is) ∙ all_awaited limit s next (some_out s.out some) waits)
+-- a last deal changes no frame before it
+pub frames_first : (cfg : SessionCfg) (v : Version) (before : List Deal) (deal : Deal) (place : ℕ) → place < length before
+    → slice_get (frames_at cfg v (before ++ deal ∷ [])) place ≡ slice_get (frames_at cfg v before) place
+frames_first cfg v before deal place less =
+    ap (λ (l : List (List ℕ)). slice_get l place) (reply_frames-append (ahead_terms cfg v) fresh_desk before (deal ∷ []))
+    ∙ at_first (frames_at cfg v before) (reply_frames (ahead_terms cfg v) (desk_after (ahead_terms cfg v) fresh_desk before) (deal ∷ [])) place
+    (omega (arith, less, length_frames (ahead_terms cfg v) fresh_desk before))
 
--- replies wait, or no more than the limit of calls is out
-pub steps_on : (limit : ℕ) (s : State) (next : Coming) → next ≡ coming s → (s.waiting.frames ≡ [] → is_full limit s.out ≡ false) → ((s.out ≡ [] → ⊥) → waits_for_all next ≡ false) → step_ahead limit s ≡ step_on s next
-steps_on limit s next is full waits = elim (cases_none s.waiting.frames) [
-  | inl none ↦ ap (step_ahead_to limit s) (sym is) ∙ goes_on limit s next (full none) (no_wait s.out waits)
-  | inr some ↦
-      let first : next ≡ Replies = is ∙ replies_first s some in
-      ap (step_ahead_to limit s) (sym is) ∙ ap (step_ahead_to limit s) first ∙ sym (ap (step_on s) first)
-] where
-  cases_none : (frames : List (List ℕ)) → (frames ≡ []) ⊎ (frames ≡ [] → ⊥)
-  cases_none [] = inl refl
-  cases_none (frame ∷ frames) = inr (λ e. cc)
+-- its own frame
+pub frame_last : (cfg : SessionCfg) (v : Version) (before : List Deal) (deal : Deal)
+    → slice_get (frames_at cfg v (before ++ deal ∷ [])) (length before) ≡ Some (reply_frame v (turn (ahead_terms cfg v) (desk_after (ahead_terms cfg v) fresh_desk before) deal).reply)
+frame_last cfg v before deal =
+    let frame : List ℕ = reply_frame v (turn (ahead_terms cfg v) (desk_after (ahead_terms cfg v) fresh_desk before) deal).reply in
+    ap (λ (l : List (List ℕ)). slice_get l (length before)) (reply_frames-append (ahead_terms cfg v) fresh_desk before (deal ∷ []))
+    ∙ ap (slice_get (frames_at cfg v before ++ frame ∷ [])) (sym (length_frames (ahead_terms cfg v) fresh_desk before))
+    ∙ at_end (frames_at cfg v before) frame []
 
-  no_wait : (out : List Awaited) → ((out ≡ [] → ⊥) → waits_for_all next ≡ false) → (has_out out && waits_for_all next) ≡ false
-  no_wait [] waits = refl
-  no_wait (a ∷ out) waits = waits (λ e. cc)
+-- ---- the whole output
+
+-- where the frames in the order are the same, so is all that is shown
+pub same_shown : (cfg : SessionCfg) (bodies : List (List ℕ)) (deals now : List Deal) (order : List ℕ)
+    → ((v : Version) (place : ℕ) → Contains order place → slice_get (frames_at cfg v deals) place ≡ slice_get (frames_at cfg v now) place)
+    → out_ahead cfg bodies deals order ≡ out_ahead cfg bodies now order
+same_shown cfg [] deals now order same = refl
+same_shown cfg (hello ∷ bodies) deals now order same = ap (λ (l : List (List ℕ)). hello_frame cfg hello ∷ l) (by_greeting (greeting_of hello)) where
+  by_greeting : (g : Greeting) → frames_ahead cfg g deals order ≡ frames_ahead cfg g now order
+  by_greeting (Ok accepted) = in_order_same (frames_at cfg accepted.version deals) (frames_at cfg accepted.version now) order (same accepted.version)
+  by_greeting (Err fault) = refl
+
+-- what an open session shows
+pub open_shown : (cfg : SessionCfg) (hello : List ℕ) (requests bodies : List (List ℕ)) (accepted : Hello) (deals : List Deal) (order : List ℕ) → bodies ≡ hello ∷ requests → greeting_of hello ≡ Ok accepted
+    → out_ahead cfg bodies deals order ≡ hello_frame cfg hello ∷ in_order (frames_at cfg accepted.version deals) order
+open_shown cfg hello requests bodies accepted deals order e greets =
+    ap (λ (l : List (List ℕ)). out_ahead cfg l deals order) e ∙ ap (λ (g : Greeting). hello_frame cfg hello ∷ frames_ahead cfg g deals order) greets
+
+-- one more reply stands last in the order
+pub open_shown_more : (cfg : SessionCfg) (hello : List ℕ) (requests bodies : List (List ℕ)) (accepted : Hello) (deals : List Deal) (order : List ℕ) (place : ℕ) (frame : List ℕ)
+    → bodies ≡ hello ∷ requests → greeting_of hello ≡ Ok accepted → slice_get (frames_at cfg accepted.version deals) place ≡ Some frame
+    → out_ahead cfg bodies deals (order ++ place ∷ []) ≡ out_ahead cfg bodies deals order ++ frame ∷ []
+open_shown_more cfg hello requests bodies accepted deals order place frame e greets at =
+    open_shown cfg hello requests bodies accepted deals (order ++ place ∷ []) e greets
+    ∙ ap (λ (l : List (List ℕ)). hello_frame cfg hello ∷ l) (in_order_more (frames_at cfg accepted.version deals) order place frame at)
+    ∙ ap (λ (l : List (List ℕ)). l ++ frame ∷ []) (sym (open_shown cfg hello requests bodies accepted deals order e greets))

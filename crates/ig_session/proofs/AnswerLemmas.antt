@@ -1,7 +1,8 @@
 -- An answer keeps what a session stands for.
 use Rattle.std.proofs.Common.{◌≡◌, ◌⊎◌, inl, inr, ℕ, zero, suc, ◌+◌, ◌≤◌, List, [], ◌∷◌, ◌++◌, length, Option, None, Some, Ok, Err, refl, sym, ap, ◌∙◌, subst, arith, append-nil, append_assoc, length-append}
 use Rattle.std.proofs.lemmas.List.{map-append}
-use Rattle.std.specs.Prelude.{◌==◌, true, false, Bool}
+use Rattle.std.specs.Prelude.{Bool, cond}
+use Rattle.std.proofs.lemmas.Bool.{eq-eqb}
 use Rattle.std.specs.List.{cons_option}
 use Rattle.ig_base.specs.Numbers.{AreBytes}
 use Rattle.ig_base.specs.Frames.{client}
@@ -68,16 +69,9 @@ open_phase (Refused fault) cfg desk out bodies ran settled asked a is all one =
       no_request (y ∷ xs) x e = cc
 open_phase OutOfMemory cfg desk out bodies ran settled asked a is all one = absurd cc
 
-nth_same : (n : ℕ) → (n == n) ≡ true
-nth_same zero = refl
-nth_same (suc n) = nth_same n
-
 -- without its only call, none is out
 none_left : (a : Awaited) → without_nth (a ∷ []) a.nth ≡ []
-none_left a = ap (λ (b : Bool). filter_if b) (nth_same a.nth) where
-  filter_if : Bool → List Awaited
-  filter_if true = []
-  filter_if false = a ∷ []
+none_left a = ap (λ (b : Bool). cond b [] (a ∷ [])) (eq-eqb a.nth a.nth refl)
 
 module _ (s : State) (input : List ℕ) (ran : List Ran) (call : Call) (got : Got) (output : List ℕ) (stood : Stands s input ran (call ∷ []) output) where
   abbrev it : OneOut (length ran) s.out stood.pending call

@@ -38,7 +38,7 @@ hello_shown cfg hello (Ok accepted) given is = ap (λ (g : Greeting). greeting_f
 hello_shown cfg hello (Err fault) given is = ap (λ (g : Greeting). greeting_frame cfg g ∷ frames_after cfg session_manner g (asks_after g []) given) is
 
 -- nothing was asked by the hello
-hello_asks : (hello : List ℕ) (greeting : Greeting) → greeting_of hello ≡ greeting → asks (hello ∷ []) ≡ []
+pub hello_asks : (hello : List ℕ) (greeting : Greeting) → greeting_of hello ≡ greeting → asks (hello ∷ []) ≡ []
 hello_asks hello (Ok accepted) is = ap (λ (g : Greeting). asks_after g []) is
 hello_asks hello (Err fault) is = ap (λ (g : Greeting). asks_after g []) is
 
@@ -47,7 +47,7 @@ append_none [] ys e = (refl, e)
 append_none (x ∷ xs) ys e = absurd cc
 
 -- where no request is pending, no call is out
-nothing_awaited : (nth : ℕ) (out : List Awaited) (pending : List Asked) (calls_out : List Call) → AwaitFrom nth out pending calls_out → pending ≡ [] → out ≡ []
+pub nothing_awaited : (nth : ℕ) (out : List Awaited) (pending : List Asked) (calls_out : List Call) → AwaitFrom nth out pending calls_out → pending ≡ [] → out ≡ []
 nothing_awaited nth [] pending calls_out awaited none = refl
 nothing_awaited nth (a ∷ out) pending calls_out awaited none = let one = awaited.4 in absurd cc
 

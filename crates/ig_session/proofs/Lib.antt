@@ -9,6 +9,7 @@ pub mod LookLemmas
 pub mod RequestLemmas
 pub mod OutboxLemmas
 pub mod NthLemmas
+pub mod HeldUpLemmas
 pub mod AheadLemmas
 pub mod StandLemmas
 pub mod GreetLemmas
@@ -18,6 +19,14 @@ pub mod AnswerLemmas
 pub mod WriteLemmas
 pub mod StepLemmas
 pub mod EndLemmas
+pub mod PlaceLemmas
+pub mod ApartLemmas
+pub mod OutLemmas
+pub mod DueLemmas
+pub mod StandsByLemmas
+pub mod AheadGreetLemmas
+pub mod AheadStepLemmas
+pub mod AheadAnswerLemmas
 pub mod TakeLemmas
 pub mod SinceLemmas
 pub mod SendLemmas

@@ -9,7 +9,8 @@ use Rattle.ig_session.specs.declared.step.Ahead.{Ahead}
 use Rattle.ig_session.specs.declared.step.Ahead.TheVariants as steps
 use Rattle.ig_session.specs.States.{State, new_state}
 use Rattle.ig_session.specs.Soundness.{IsSound}
-use Rattle.ig_session.specs.Steps.{fed, written}
+use Rattle.ig_session.specs.Steps.{fed, written, IsSpent, Lacks}
+use Rattle.ig_session.specs.Awaiting.{without_nth}
 use Rattle.ig_session.specs.StepsAhead.{step_ahead, answered_nth}
 use Rattle.ig_session.specs.StandsAhead.{HandedAhead, StandsAhead}
 
@@ -44,11 +45,23 @@ with_got (r ∷ ran) (suc nth) got = r ∷ with_got ran nth got
 abbrev pub AnswerStandsAhead : Type 0
 AnswerStandsAhead =
     (s : State) (input : List ℕ) (ran : List HandedAhead) (order output : List ℕ) (nth : ℕ) (call : Call) (got : Got)
-    → IsSound s → slice_get ran nth ≡ Some (record { call = call; got = None })
+    → slice_get ran nth ≡ Some (record { call = call; got = None })
     → StandsAhead s input ran order output
     → (more : List ℕ) × (length more ≤ 1)
     × StandsAhead (answered_nth s nth got) input (with_got ran nth got)
     (order ++ more) output
+
+-- where its reply is lost it adds none
+abbrev pub LostAnswerStandsAhead : Type 0
+LostAnswerStandsAhead =
+    (s new : State) (input : List ℕ) (ran : List HandedAhead) (order output : List ℕ) (nth : ℕ) (call : Call) (got : Got)
+    → slice_get ran nth ≡ Some (record { call = call; got = None }) → IsSpent s new (without_nth s.out nth)
+    → StandsAhead s input ran order output → StandsAhead new input (with_got ran nth got) order output
+
+abbrev pub LackStandsAhead : Type 0
+LackStandsAhead =
+    (s new : State) (input : List ℕ) (ran : List HandedAhead) (order output : List ℕ) → Lacks s new
+    → StandsAhead s input ran order output → StandsAhead new input ran order output
 
 abbrev pub WrittenStandsAhead : Type 0
 WrittenStandsAhead =

@@ -1,5 +1,5 @@
 -- What a session stands for of which several calls may be out, and are answered in any order.
-use Rattle.std.specs.Prelude.{◌≡◌, ◌↔◌, ℕ, suc, ◌+◌, ◌<◌, ◌≤◌, Bool, true, false, List, [], ◌∷◌, ◌++◌, map, length, Contains, slice_get, Option, None, Some, Result, Ok, Err, IsTrue}
+use Rattle.std.specs.Prelude.{◌≡◌, ◌↔◌, ℕ, suc, ◌<◌, Bool, true, false, List, [], ◌∷◌, ◌++◌, map, length, Contains, slice_get, Option, None, Some, Result, Ok, Err}
 use Rattle.std.specs.List.{filter_map}
 use Rattle.ig_base.specs.Numbers.{AreBytes}
 use Rattle.ig_base.specs.Frames.{client}
@@ -77,14 +77,26 @@ abbrev pub LooksAtCursors : Option Deal → Type 0
 LooksAtCursors None = ⊥
 LooksAtCursors (Some deal) = is_at_cursors deal.asked.request ≡ true
 
--- The replies stand in this order, by the places of their requests: each at most once, none that isn't due, and what
--- looks at cursors after exactly the requests before it.
-pub record IsOrder (deals : List Deal) (order : List ℕ) : Type 0 where
-  pub due : (place : ℕ) → Contains order place → IsDue (slice_get deals place)
-  pub once : (before after : List ℕ) (place : ℕ) → order ≡ before ++ place ∷ after
-      → ¬ (Contains before place) × ¬ (Contains after place)
-  pub behind : (before after : List ℕ) (place : ℕ) → order ≡ before ++ place ∷ after
-      → LooksAtCursors (slice_get deals place) → (other : ℕ) → Contains before other ↔ (other < place)
+-- Replies to the requests of these places came before, and the one to the request of this place comes next: it is due
+-- and didn't come before, and what looks at cursors comes after exactly the requests before it.
+pub record ComesNext (deals : List Deal) (before : List ℕ) (place : ℕ) : Type 0 where
+  pub due : IsDue (slice_get deals place)
+  pub once : ¬ (Contains before place)
+  pub behind : LooksAtCursors (slice_get deals place) → (other : ℕ) → Contains before other ↔ (other < place)
+
+-- the replies stand in this order, by the places of their requests, after those of other places
+abbrev pub IsOrderAfter : List Deal → List ℕ → List ℕ → Type 0
+IsOrderAfter deals before [] = Unit {0}
+IsOrderAfter deals before (place ∷ later) = ComesNext deals before place × IsOrderAfter deals (before ++ place ∷ []) later
+
+abbrev pub IsOrder : List Deal → List ℕ → Type 0
+IsOrder deals order = IsOrderAfter deals [] order
+
+-- a scan that is out is the last request, and no other call is out
+abbrev pub AreScansAlone : List Deal → Type 0
+AreScansAlone deals =
+    (before after : List Deal) (deal : Deal) → deals ≡ before ++ deal ∷ after → is_at_cursors deal.asked.request ≡ true
+    → is_due (call_for deal.asked.request) deal.got ≡ false → (after ≡ []) × (out_among 0 before ≡ [])
 
 -- each reply that is due stands in the order, save where memory ran out
 abbrev pub HasEach : Phase → List Deal → List ℕ → Type 0
@@ -138,6 +150,7 @@ pub record StandsAhead (s : State) (input : List ℕ) (ran : List HandedAhead) (
   pub out : s.out ≡ out_among 0 (dealt_ahead (asks bodies) (given_so_far ran))
   pub count : s.handed ≡ length ran
   pub phase : IsInAhead s.phase s.cfg s.desk bodies (dealt_ahead (asks bodies) (given_so_far ran))
+  pub alone : AreScansAlone (dealt_ahead (asks bodies) (given_so_far ran))
   pub order_is : IsOrder (dealt_ahead (asks bodies) (given_so_far ran)) order
   pub each : HasEach s.phase (dealt_ahead (asks bodies) (given_so_far ran)) order
   pub shows : output ++ bytes_left s.waiting ≡ joined (out_ahead s.cfg bodies (dealt_ahead (asks bodies) (given_so_far ran)) order)

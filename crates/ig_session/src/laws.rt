@@ -2,7 +2,7 @@
 //! each step.
 
 ghost use Rattle.ig_session.specs.Laws.{NewStands, FedStands, StepStands, AnswerStands, LostAnswerStands, LackStands, WrittenStands, StopIsEnd, FaultIsEnd, PauseIsEnd};
-ghost use Rattle.ig_session.specs.LawsAhead.{NewStandsAhead, FedStandsAhead, StepStandsAhead, AnswerStandsAhead, WrittenStandsAhead};
+ghost use Rattle.ig_session.specs.LawsAhead.{NewStandsAhead, FedStandsAhead, StepStandsAhead, AnswerStandsAhead, LostAnswerStandsAhead, LackStandsAhead, WrittenStandsAhead};
 
 /// A session stands for the input that it was fed, the calls that it handed out with what was given for
 /// them, and the output that was written: nothing at first, and the longer lists after each call. A
@@ -24,6 +24,8 @@ pub fn sessions_stand_ahead()
     ensures fed { FedStandsAhead }
     ensures step { StepStandsAhead }
     ensures answer { AnswerStandsAhead }
+    ensures lost { LostAnswerStandsAhead }
+    ensures lack { LackStandsAhead }
     ensures written { WrittenStandsAhead }
 {}
 
