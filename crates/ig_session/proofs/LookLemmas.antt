@@ -71,14 +71,14 @@ request_next held now least terms f is l p none e =
 
 request_said : (expected : Result Request AskFault) (read : Result Request AskFault) → (read ≡ Err ask.NoMemory → ⊥) → AnswersAs expected read
     → result_map_both (λ r. r) refusal_of read ≡ result_map_both (λ r. r) refusal_of expected
-request_said expected (Ok r) no as = ap (result_map_both (λ r. r) refusal_of) (sym as)
-request_said expected (Err ask.NoMemory) no as = absurd (no refl)
-request_said expected (Err ask.NotMine) no as = ap (result_map_both (λ r. r) refusal_of) (sym as)
-request_said expected (Err (ask.Unread place)) no as = ap (result_map_both (λ r. r) refusal_of) (sym as)
-request_said expected (Err (ask.Profile profile)) no as = ap (result_map_both (λ r. r) refusal_of) (sym as)
+request_said expected (Ok r) no answers = ap (result_map_both (λ r. r) refusal_of) (sym answers)
+request_said expected (Err ask.NoMemory) no answers = absurd (no refl)
+request_said expected (Err ask.NotMine) no answers = ap (result_map_both (λ r. r) refusal_of) (sym answers)
+request_said expected (Err (ask.Unread place)) no answers = ap (result_map_both (λ r. r) refusal_of) (sym answers)
+request_said expected (Err (ask.Profile profile)) no answers = ap (result_map_both (λ r. r) refusal_of) (sym answers)
 
 pub said_asked : (v : Version) (body : List ℕ) (id : ℤ) (read : Result Request AskFault) → id ≡ id_in body → (read ≡ Err ask.NoMemory → ⊥) → AnswersAs (request_in v body) read
     → asked_said id read ≡ asked_in v body
 unfolding asked_in
-said_asked v body id read is no as =
-    ap (λ (i : ℤ). asked_said i read) is ∙ ap (λ (r : Result Request Fault). record { id = id_in body; request = r }) (request_said (request_in v body) read no as)
+said_asked v body id read is no answers =
+    ap (λ (i : ℤ). asked_said i read) is ∙ ap (λ (r : Result Request Fault). record { id = id_in body; request = r }) (request_said (request_in v body) read no answers)

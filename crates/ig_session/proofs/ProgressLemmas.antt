@@ -107,8 +107,8 @@ asked_hands : (s new : State) (call : Call) (terms : Terms) (asked : Asked) (o :
 asked_hands s new call terms asked None comes e = let steps_are = ap (λ (p : Step × State). p.0) e in absurd cc
 asked_hands s new call terms asked (Some other) comes e =
     let is = ap (λ (p : Step × State). p.1) e in
-    let as : ComesAs s (Asks terms asked) = comes_as s (Asks terms asked) (λ no. cc) comes in
-    subst (HandsOut s) (sym is) (record { out = length-append s.out _; cfg = refl; less = request_shorter s terms asked comes; none = as.none_waits })
+    let so : ComesAs s (Asks terms asked) = comes_as s (Asks terms asked) (λ no. cc) comes in
+    subst (HandsOut s) (sym is) (record { out = length-append s.out _; cfg = refl; less = request_shorter s terms asked comes; none = so.none_waits })
 
 run_hands : (s new : State) (call : Call) (next : Coming) → coming s ≡ next → (steps.Run call, new) ≡ step_to s next → HandsOut s new
 run_hands s new call Replies comes e = let steps_are = ap (λ (p : Step × State). p.0) e in absurd cc
