@@ -1,6 +1,6 @@
 //! A session of which several calls may be out, and are answered in any order.
 
-ghost use Rattle.std.specs.Prelude.{◌≡◌, ◌≢◌, ◌≤◌, [], IfOk, OnOk, OnErr, IsSome};
+ghost use Rattle.std.specs.Prelude.{◌≡◌, ◌≢◌, ◌≤◌, true, false, [], IfOk, OnOk, OnErr, IsSome};
 ghost use Rattle.std.specs.List.{list_any};
 ghost use Rattle.ig_session.specs.declared.awaited.Awaited.{Awaited as a_call_out};
 ghost use Rattle.ig_session.specs.declared.phase.Phase.TheVariants.{OutOfMemory};
@@ -70,14 +70,40 @@ impl Session {
         ensures err { OnErr result (Lacks self.old self.new) }
         ensures sound { IsSound self.old }
     {
-        if self.outbox.is_empty() && self.is_full(limit) {
+        if self.must_wait_for_one(limit) {
             return Ok(self.stop_or_wait());
         }
         let next = self.look()?;
-        if !self.out.is_empty() && waits_for_all(&next) {
+        if self.must_wait_for_all(&next) {
             return Ok(Ahead::Wait);
         }
         self.step_on(next)
+    }
+
+    /// Whether no reply waits, and no call may be handed out besides those that are out.
+    fn must_wait_for_one(&self, limit: u32) -> bool
+        ensures yes { result ≡ true
+            → (self.now.waiting.frames ≡ []) × (is_full limit self.now.out ≡ true) }
+        ensures no { result ≡ false
+            → self.now.waiting.frames ≡ [] → is_full limit self.now.out ≡ false }
+    {
+        if !self.outbox.is_empty() {
+            return false;
+        }
+        self.is_full(limit)
+    }
+
+    /// Whether some call is out, and what comes next waits for the answers to all of them.
+    fn must_wait_for_all(&self, next: &Coming) -> bool
+        ensures yes { result ≡ true
+            → (self.now.out ≢ []) × (waits_for_all (coming_said next.now) ≡ true) }
+        ensures no { result ≡ false
+            → self.now.out ≢ [] → waits_for_all (coming_said next.now) ≡ false }
+    {
+        if self.out.is_empty() {
+            return false;
+        }
+        waits_for_all(next)
     }
 
     /// Whether no call may be handed out besides those that are out.
