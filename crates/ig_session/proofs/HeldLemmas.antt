@@ -2,19 +2,19 @@
 use Rattle.std.proofs.Common.{◌≡◌, ℕ, ◌+◌, ◌≤◌, List, [], ◌∷◌, length, Result, Ok, Err, refl, sym, ap, ◌∙◌, subst, arith}
 use Rattle.std.specs.Prelude.{◌↔◌, Bool, true, false, IsTrue, OnOk, OnErr}
 use Rattle.ig_base.specs.Frames.{Front, Body, Bad, Incomplete}
-use Rattle.ig_frame.specs.Streams.{Stream, front_at, longer_stream}
+use Rattle.ig_frame.specs.Streams.{Stream, front_at, longer_stream, stream_after_frame}
 use Rattle.ig_deals.specs.declared.end.SessionEnd.{SessionEnd}
 use Rattle.ig_deals.specs.declared.end.SessionEnd.TheVariants as ends
 use Rattle.ig_replies.specs.declared.terms.Terms.{Terms}
-use Rattle.ig_replies.specs.Showing.{Waiting, waiting_none, piece_shown}
+use Rattle.ig_replies.specs.Showing.{Waiting, waiting_none, piece_shown, after_gone, after_push}
 use Rattle.ig_session.specs.declared.phase.Phase.{Phase}
 use Rattle.ig_session.specs.declared.phase.Phase.TheVariants.{BeforeHello, Open, Refused, OutOfMemory}
 use Rattle.ig_session.specs.States.{State}
 use Rattle.ig_session.specs.Comings.{Coming, Replies, Misses, least_in, coming, IsPaused}
 use Rattle.ig_session.specs.Soundness.{most_fed, IsSound}
-use Rattle.ig_session.specs.Steps.{fed, end_after, end_at}
+use Rattle.ig_session.specs.Steps.{fed, passed, written, end_at, IsSpent}
 use Rattle.ig_session.proofs.ComingLemmas.{MissesIn, misses}
-use Rattle.ig_session.proofs.SoundLemmas.{fed_sound}
+use Rattle.ig_session.proofs.SoundLemmas.{passed_sound, written_sound, pushed_sound}
 use Rattle.ig_session.proofs.LookLemmas.{replies_first, front_here}
 use Rattle.ig_session.proofs.ChangeLemmas.{fed_either, truncated_other, truncated_inside, ended_open, none_waiting}
 
@@ -35,7 +35,44 @@ module _ (held now : State) (is : held ≡ now) where
   fed_err (Ok done) stream err = tt
   fed_err (Err lack) stream err = ap (λ (x : Stream). record held { stream = x }) err ∙ is
 
+  -- ---- a frame is passed
+
+  passed_to : (least : ℕ) (stream : Stream) → least ≡ least_in held.phase → stream ≡ stream_after_frame least held.stream → stream ≡ (passed held).stream
+  passed_to least stream l e = e ∙ ap (λ (n : ℕ). stream_after_frame n held.stream) l
+
+  pub passed_is : (least : ℕ) (stream : Stream) → least ≡ least_in held.phase → stream ≡ stream_after_frame least held.stream → record held { stream = stream } ≡ passed now
+  passed_is least stream l e = ap (λ (x : Stream). record held { stream = x }) (passed_to least stream l e) ∙ ap passed is
+
+  pub passed_keeps : (least : ℕ) (stream : Stream) → least ≡ least_in held.phase → stream ≡ stream_after_frame least held.stream → IsSound held → IsSound (record held { stream = stream })
+  passed_keeps least stream l e sound = subst (λ (x : Stream). IsSound (record held { stream = x })) (sym (passed_to least stream l e)) (passed_sound held sound)
+
   -- ---- the output
+
+  pub gone_is : (n : ℕ) (w : Waiting) → w ≡ after_gone held.waiting n → record held { waiting = w } ≡ written now n
+  gone_is n w e = ap (λ (x : Waiting). record held { waiting = x }) e ∙ ap (λ (s : State). written s n) is
+
+  pub gone_keeps : (n : ℕ) (w : Waiting) → w ≡ after_gone held.waiting n → IsSound held → IsSound (record held { waiting = w })
+  gone_keeps n w e sound = subst (λ (x : Waiting). IsSound (record held { waiting = x })) (sym e) (written_sound held n sound)
+
+  pub gone_within : (n : ℕ) → n ≤ length (piece_shown now.waiting) → n ≤ length (piece_shown held.waiting)
+  gone_within n le = subst (λ (s : State). n ≤ length (piece_shown s.waiting)) (sym is) le
+
+  -- a frame waits after the others, or there was no memory for it
+  pub shown_is : (frame : List ℕ) (w : Waiting) → w ≡ after_push held.waiting frame → record held { waiting = w } ≡ record now { waiting = after_push now.waiting frame }
+  shown_is frame w e = ap (λ (x : Waiting). record held { waiting = x }) e ∙ ap (λ (s : State). record s { waiting = after_push s.waiting frame }) is
+
+  pub shown_keeps : (frame : List ℕ) (w : Waiting) → w ≡ after_push held.waiting frame → IsSound held → IsSound (record held { waiting = w })
+  shown_keeps frame w e sound = subst (λ (x : Waiting). IsSound (record held { waiting = x })) (sym e) (pushed_sound held frame sound)
+
+  pub same_is : (w : Waiting) → w ≡ held.waiting → record held { waiting = w } ≡ now
+  same_is w e = ap (λ (x : Waiting). record held { waiting = x }) e ∙ is
+
+  pub same_keeps : (w : Waiting) → w ≡ held.waiting → IsSound held → IsSound (record held { waiting = w })
+  same_keeps w e sound = subst (λ (x : Waiting). IsSound (record held { waiting = x })) (sym e) sound
+
+  pub spent_is : IsSpent now (record held { phase = OutOfMemory }) now.out
+  spent_is = subst (λ (s : State). IsSpent s (record held { phase = OutOfMemory }) s.out) is
+      (record { cfg = refl; stream = refl; phase = refl; out_are = refl; handed = refl; waiting = refl })
 
   pub waiting_end : (shown : List ℕ) → IsSound held → (shown ≡ []) ↔ (held.waiting.frames ≡ []) → (shown ≡ []) ↔ (now.waiting ≡ waiting_none)
   waiting_end shown sound both = (
