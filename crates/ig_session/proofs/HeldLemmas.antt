@@ -1,8 +1,11 @@
 -- What each call on a session answers, from what its parts answer. `held` are the parts, and `now` is the session.
-use Rattle.std.proofs.Common.{◌≡◌, ℕ, ◌+◌, ◌≤◌, List, [], ◌∷◌, length, Result, Ok, Err, refl, sym, ap, ◌∙◌, subst, arith}
+use Rattle.std.proofs.Common.{◌≡◌, ℕ, ◌+◌, ◌<◌, ◌≤◌, ◌^◌, ℤ, List, [], ◌∷◌, length, Result, Ok, Err, refl, sym, ap, ◌∙◌, subst, arith}
 use Rattle.std.specs.Prelude.{◌↔◌, Bool, true, false, IsTrue, OnOk, OnErr}
 use Rattle.ig_base.specs.Frames.{Front, Body, Bad, Incomplete}
 use Rattle.ig_frame.specs.Streams.{Stream, front_at, longer_stream, stream_after_frame}
+use Rattle.ig_wire.specs.Versions.{highest_version}
+use Rattle.ig_wire.specs.Greets.{greeting}
+use Rattle.ig_deals.specs.Hellos.{Greeting, greeting_of}
 use Rattle.ig_deals.specs.declared.end.SessionEnd.{SessionEnd}
 use Rattle.ig_deals.specs.declared.end.SessionEnd.TheVariants as ends
 use Rattle.ig_replies.specs.declared.terms.Terms.{Terms}
@@ -10,11 +13,12 @@ use Rattle.ig_replies.specs.Showing.{Waiting, waiting_none, piece_shown, after_g
 use Rattle.ig_session.specs.declared.phase.Phase.{Phase}
 use Rattle.ig_session.specs.declared.phase.Phase.TheVariants.{BeforeHello, Open, Refused, OutOfMemory}
 use Rattle.ig_session.specs.States.{State}
-use Rattle.ig_session.specs.Comings.{Coming, Replies, Misses, least_in, coming, IsPaused}
+use Rattle.ig_session.specs.Comings.{Replies, Stops, Misses, Greets, least_in, coming, IsPaused}
 use Rattle.ig_session.specs.Soundness.{most_fed, IsSound}
 use Rattle.ig_session.specs.Steps.{fed, passed, written, end_at, IsSpent}
 use Rattle.ig_session.proofs.ComingLemmas.{MissesIn, misses}
 use Rattle.ig_session.proofs.SoundLemmas.{passed_sound, written_sound, pushed_sound}
+use Rattle.ig_session.proofs.FrontLemmas.{body_range}
 use Rattle.ig_session.proofs.LookLemmas.{replies_first, front_here}
 use Rattle.ig_session.proofs.ChangeLemmas.{fed_either, truncated_other, truncated_inside, ended_open, none_waiting}
 
@@ -89,6 +93,26 @@ module _ (held now : State) (is : held ≡ now) where
   pub replies_now : (empty : Bool) → IsTrue empty ↔ (held.waiting.frames ≡ []) → empty ≡ false → Replies ≡ coming now
   replies_now empty both e = sym (replies_first now (λ none. clash (sym e ∙ both.1 (ap (λ (s : State). s.waiting.frames) is ∙ none))))
 
+  -- ---- bodies
+
+  pub hello_long : (least : ℕ) (body rest : List ℕ) → least ≡ least_in held.phase → now.phase ≡ BeforeHello → front_at least held.stream ≡ Body body rest → 8 ≤ length body
+  hello_long least body rest l phase found =
+      let range : (least ≤ length body) × (length body ≤ held.stream.limit) = body_range least held.stream.limit held.stream.rest body rest found in
+      let eight : least ≡ 8 = l ∙ ap (λ (s : State). least_in s.phase) is ∙ ap least_in phase in omega (arith, range.0, eight)
+
+  pub request_long : (least : ℕ) (terms : Terms) (body rest : List ℕ) → least ≡ least_in held.phase → now.phase ≡ Open terms → front_at least held.stream ≡ Body body rest → 10 ≤ length body
+  request_long least terms body rest l phase found =
+      let range : (least ≤ length body) × (length body ≤ held.stream.limit) = body_range least held.stream.limit held.stream.rest body rest found in
+      let ten : least ≡ 10 = l ∙ ap (λ (s : State). least_in s.phase) is ∙ ap least_in phase in omega (arith, range.0, ten)
+
+  pub body_short : (least : ℕ) (body rest : List ℕ) → front_at least held.stream ≡ Body body rest → IsSound held → length body < 2 ^ 31
+  body_short least body rest found sound =
+      let range : (least ≤ length body) × (length body ≤ held.stream.limit) = body_range least held.stream.limit held.stream.rest body rest found in omega (arith, range.1, sound.limit)
+
+  -- a length out of range
+  pub bad_place : (place : ℕ) (n : ℤ) → place ≡ held.stream.place → Stops (ends.BadFrame place n) ≡ Stops (ends.BadFrame now.stream.place n)
+  bad_place place n at = ap (λ (p : ℕ). Stops (ends.BadFrame p n)) (at ∙ ap (λ (s : State). s.stream.place) is)
+
   -- ---- the end of the input
 
   part_here : (least missing : ℕ) → least ≡ least_in held.phase → coming now ≡ Misses missing → front_at least held.stream ≡ Incomplete missing
@@ -116,3 +140,9 @@ end_inside now end paused truncated some = truncated paused.0 paused.1 ∙ sym (
 
 pub end_open : (now : State) (terms : Terms) → IsPaused now → now.phase ≡ Open terms → now.stream.rest ≡ [] → ends.Ended ≡ end_at now (coming now)
 end_open now terms paused is none = sym (ap (end_at now) paused.1 ∙ ended_open now.phase terms now.stream.rest paused.0 is none)
+
+-- ---- a hello that was read
+
+pub greets_read : (body : List ℕ) (read : Greeting) → read ≡ greeting highest_version body → Greets read ≡ Greets (greeting_of body)
+unfolding greeting_of
+greets_read body read e = ap Greets e

@@ -1,5 +1,6 @@
 -- What comes next, from what the parts of a session are.
 use Rattle.std.proofs.Common.{◌≡◌, ℕ, ℤ, List, [], ◌∷◌, if◌then◌else◌, Result, Ok, Err, refl, sym, ap, ◌∙◌}
+use Rattle.std.specs.Prelude.{IfOk}
 use Rattle.std.specs.Result.{result_map_both}
 use Rattle.ig_base.specs.Frames.{client, Front, Body, Bad, Incomplete}
 use Rattle.ig_frame.specs.Streams.{front_at}
@@ -16,8 +17,9 @@ use Rattle.ig_deals.specs.Hellos.{greeting_of}
 use Rattle.ig_replies.specs.declared.terms.Terms.{Terms}
 use Rattle.ig_session.specs.declared.phase.Phase.{Phase}
 use Rattle.ig_session.specs.declared.phase.Phase.TheVariants.{BeforeHello, Open, Refused, OutOfMemory}
+use Rattle.ig_session.specs.declared.coming.Coming.{Coming as HeldComing}
 use Rattle.ig_session.specs.Comings.{Coming, Replies, Greets, Asks, least_in, waits, found, coming_in, coming}
-use Rattle.ig_session.specs.Requests.{asked_said}
+use Rattle.ig_session.specs.Requests.{asked_said, coming_said}
 use Rattle.ig_session.specs.States.{State}
 
 -- ---- what waits comes first
@@ -82,3 +84,8 @@ pub said_asked : (v : Version) (body : List ℕ) (id : ℤ) (read : Result Reque
 unfolding asked_in
 said_asked v body id read is no answers =
     ap (λ (i : ℤ). asked_said i read) is ∙ ap (λ (r : Result Request Fault). record { id = id_in body; request = r }) (request_said (request_in v body) read no answers)
+
+-- what comes next is what was read
+pub if_next : {E : Type 0} (next now : Coming) (read : Result HeldComing E) → next ≡ now → IfOk read (λ said. coming_said said ≡ next) → IfOk read (λ said. coming_said said ≡ now)
+if_next next now (Ok said) is e = e ∙ is
+if_next next now (Err lack) is e = tt
