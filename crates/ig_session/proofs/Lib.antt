@@ -8,6 +8,7 @@ pub mod FrontLemmas
 pub mod LookLemmas
 pub mod RequestLemmas
 pub mod OutboxLemmas
+pub mod AwaitLemmas
 pub mod NthLemmas
 pub mod HeldUpLemmas
 pub mod AheadLemmas

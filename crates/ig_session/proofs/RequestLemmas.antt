@@ -1,6 +1,6 @@
 -- What the crates that have the operations read, as what a body asks.
 use Rattle.std.proofs.Common.{◌≡◌, ℕ, ℤ, pos, List, drop, ◌++◌, Option, None, Some, Result, Ok, Err, refl, sym, ap, ◌∙◌, subst}
-use Rattle.std.specs.Prelude.{FitsSigned, IfOk, Bool, true, false, if◌then◌else◌}
+use Rattle.std.specs.Prelude.{FitsSigned, IfOk, is_some, Bool, true, false, if◌then◌else◌}
 use Rattle.std.specs.Int.{w16, w64}
 use Rattle.std.specs.Option.{option_and_then}
 use Rattle.ig_base.specs.Numbers.{LE}
@@ -111,3 +111,77 @@ meta_serve (Ok (Scan cache page)) h = tt
 meta_serve (Ok (NextPage cursor)) h = tt
 meta_serve (Ok (Close resource)) h = tt
 meta_serve (Err fault) h = tt
+
+-- ---- which crate has an operation
+
+-- the operations of caches and types
+pub meta_row : (o : Operation) → is_some (meta.ask_of o) ≡ true → ask_of o ≡ meta.ask_of o
+meta_row operation.CloseResource h = absurd cc
+meta_row operation.Get h = absurd cc
+meta_row operation.Put h = absurd cc
+meta_row operation.PutIfAbsent h = absurd cc
+meta_row operation.GetAll h = absurd cc
+meta_row operation.PutAll h = absurd cc
+meta_row operation.GetAndPut h = absurd cc
+meta_row operation.GetAndReplace h = absurd cc
+meta_row operation.GetAndRemove h = absurd cc
+meta_row operation.GetAndPutIfAbsent h = absurd cc
+meta_row operation.Replace h = absurd cc
+meta_row operation.ReplaceIfEquals h = absurd cc
+meta_row operation.ContainsKey h = absurd cc
+meta_row operation.ContainsKeys h = absurd cc
+meta_row operation.Clear h = absurd cc
+meta_row operation.ClearKey h = absurd cc
+meta_row operation.ClearKeys h = absurd cc
+meta_row operation.RemoveKey h = absurd cc
+meta_row operation.RemoveIfEquals h = absurd cc
+meta_row operation.RemoveKeys h = absurd cc
+meta_row operation.RemoveAll h = absurd cc
+meta_row operation.GetSize h = absurd cc
+meta_row operation.CacheNames h = refl
+meta_row operation.Create h = refl
+meta_row operation.GetOrCreate h = refl
+meta_row operation.Destroy h = refl
+meta_row operation.PartitionMaps h = absurd cc
+meta_row operation.Scan h = absurd cc
+meta_row operation.NextPage h = absurd cc
+meta_row operation.GetTypeName h = refl
+meta_row operation.RegisterTypeName h = refl
+meta_row operation.GetType h = refl
+meta_row operation.PutType h = refl
+
+-- the other ones, but for partition maps
+pub ops_row : (o : Operation) → is_some (meta.ask_of o) ≡ false → (o ≡ operation.PartitionMaps → ⊥) → ask_of o ≡ ops.ask_of o
+ops_row operation.CloseResource h no = refl
+ops_row operation.Get h no = refl
+ops_row operation.Put h no = refl
+ops_row operation.PutIfAbsent h no = refl
+ops_row operation.GetAll h no = refl
+ops_row operation.PutAll h no = refl
+ops_row operation.GetAndPut h no = refl
+ops_row operation.GetAndReplace h no = refl
+ops_row operation.GetAndRemove h no = refl
+ops_row operation.GetAndPutIfAbsent h no = refl
+ops_row operation.Replace h no = refl
+ops_row operation.ReplaceIfEquals h no = refl
+ops_row operation.ContainsKey h no = refl
+ops_row operation.ContainsKeys h no = refl
+ops_row operation.Clear h no = refl
+ops_row operation.ClearKey h no = refl
+ops_row operation.ClearKeys h no = refl
+ops_row operation.RemoveKey h no = refl
+ops_row operation.RemoveIfEquals h no = refl
+ops_row operation.RemoveKeys h no = refl
+ops_row operation.RemoveAll h no = refl
+ops_row operation.GetSize h no = refl
+ops_row operation.CacheNames h no = absurd cc
+ops_row operation.Create h no = absurd cc
+ops_row operation.GetOrCreate h no = absurd cc
+ops_row operation.Destroy h no = absurd cc
+ops_row operation.PartitionMaps h no = absurd (no refl)
+ops_row operation.Scan h no = refl
+ops_row operation.NextPage h no = refl
+ops_row operation.GetTypeName h no = absurd cc
+ops_row operation.RegisterTypeName h no = absurd cc
+ops_row operation.GetType h no = absurd cc
+ops_row operation.PutType h no = absurd cc
