@@ -3,6 +3,7 @@ pub mod ComingLemmas
 pub mod SoundLemmas
 pub mod ChangeLemmas
 pub mod HelloFrameLemmas
+pub mod TakenLemmas
 pub mod HeldLemmas
 pub mod FrontLemmas
 pub mod LookLemmas
