@@ -1,5 +1,5 @@
 -- What each call on a session answers, from what its parts answer. `held` are the parts, and `now` is the session.
-use Rattle.std.proofs.Common.{◌≡◌, ℕ, ◌+◌, ◌<◌, ◌≤◌, ◌^◌, ℤ, List, [], ◌∷◌, length, Result, Ok, Err, refl, sym, ap, ◌∙◌, subst, arith}
+use Rattle.std.proofs.Common.{◌≡◌, ℕ, suc, ◌+◌, ◌<◌, ◌≤◌, ◌^◌, ℤ, List, [], ◌∷◌, ◌++◌, length, Result, Ok, Err, refl, sym, ap, ◌∙◌, subst, arith}
 use Rattle.std.specs.Prelude.{◌↔◌, Bool, true, false, IsTrue, OnOk, OnErr}
 use Rattle.ig_base.specs.Frames.{Front, Body, Bad, Incomplete}
 use Rattle.ig_frame.specs.Streams.{Stream, front_at, longer_stream, stream_after_frame}
@@ -12,12 +12,14 @@ use Rattle.ig_replies.specs.declared.terms.Terms.{Terms}
 use Rattle.ig_replies.specs.Showing.{Waiting, waiting_none, piece_shown, after_gone, after_push}
 use Rattle.ig_session.specs.declared.phase.Phase.{Phase}
 use Rattle.ig_session.specs.declared.phase.Phase.TheVariants.{BeforeHello, Open, Refused, OutOfMemory}
+use Rattle.ig_session.specs.declared.awaited.Awaited.{Awaited}
+use Rattle.ig_session.specs.Requests.{ComesAny}
 use Rattle.ig_session.specs.States.{State}
 use Rattle.ig_session.specs.Comings.{Replies, Stops, Misses, Greets, least_in, coming, IsPaused}
 use Rattle.ig_session.specs.Soundness.{most_fed, IsSound}
-use Rattle.ig_session.specs.Steps.{fed, passed, written, end_at, IsSpent}
+use Rattle.ig_session.specs.Steps.{fed, passed, out_with, written, end_at, IsSpent}
 use Rattle.ig_session.proofs.ComingLemmas.{MissesIn, misses}
-use Rattle.ig_session.proofs.SoundLemmas.{passed_sound, written_sound, pushed_sound}
+use Rattle.ig_session.proofs.SoundLemmas.{passed_sound, written_sound, pushed_sound, out_sound}
 use Rattle.ig_session.proofs.FrontLemmas.{body_range}
 use Rattle.ig_session.proofs.LookLemmas.{replies_first, front_here}
 use Rattle.ig_session.proofs.ChangeLemmas.{fed_either, truncated_other, truncated_inside, ended_open, none_waiting}
@@ -49,6 +51,34 @@ module _ (held now : State) (is : held ≡ now) where
 
   pub passed_keeps : (least : ℕ) (stream : Stream) → least ≡ least_in held.phase → stream ≡ stream_after_frame least held.stream → IsSound held → IsSound (record held { stream = stream })
   passed_keeps least stream l e sound = subst (λ (x : Stream). IsSound (record held { stream = x })) (sym (passed_to least stream l e)) (passed_sound held sound)
+
+  -- ---- a call is handed out
+
+  handed_to : (least : ℕ) (stream : Stream) (out : List Awaited) (awaited : Awaited) → least ≡ least_in held.phase → stream ≡ stream_after_frame least held.stream → out ≡ held.out ++ awaited ∷ []
+      → record held { stream = stream; out = out; handed = held.handed + 1 } ≡ out_with awaited held
+  handed_to least stream out awaited l e o =
+      let one : held.handed + 1 ≡ suc held.handed = omega arith in
+      ap (λ (x : Stream). record held { stream = x; out = out; handed = held.handed + 1 }) (passed_to least stream l e)
+      ∙ ap (λ (x : List Awaited). record (passed held) { out = x; handed = held.handed + 1 }) o
+      ∙ ap (λ (n : ℕ). record (passed held) { out = held.out ++ awaited ∷ []; handed = n }) one
+
+  pub handed_is : (least : ℕ) (stream : Stream) (out : List Awaited) (awaited : Awaited) → least ≡ least_in held.phase → stream ≡ stream_after_frame least held.stream → out ≡ held.out ++ awaited ∷ []
+      → record held { stream = stream; out = out; handed = held.handed + 1 } ≡ out_with awaited now
+  handed_is least stream out awaited l e o = handed_to least stream out awaited l e o ∙ ap (out_with awaited) is
+
+  pub handed_keeps : (least : ℕ) (stream : Stream) (out : List Awaited) (awaited : Awaited) → least ≡ least_in held.phase → stream ≡ stream_after_frame least held.stream → out ≡ held.out ++ awaited ∷ []
+      → ComesAny now → IsSound held → IsSound (record held { stream = stream; out = out; handed = held.handed + 1 })
+  handed_keeps least stream out awaited l e o comes sound =
+      subst IsSound (sym (handed_to least stream out awaited l e o)) (out_sound held awaited comes.0 comes.1 (ap coming is ∙ comes.2) sound)
+
+  pub handed_fits : IsSound held → held.handed + 1 < 2 ^ 63
+  handed_fits sound = omega (arith, sound.calls, sound.fed)
+
+  pub out_same : (out : List Awaited) → out ≡ held.out → record held { out = out } ≡ now
+  out_same out e = ap (λ (x : List Awaited). record held { out = x }) e ∙ is
+
+  pub out_keeps : (out : List Awaited) → out ≡ held.out → IsSound held → IsSound (record held { out = out })
+  out_keeps out e sound = subst (λ (x : List Awaited). IsSound (record held { out = x })) (sym e) sound
 
   -- ---- the output
 
