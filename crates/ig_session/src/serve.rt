@@ -60,10 +60,10 @@ fn send_waiting<K: Sink>(session: &mut Session, sink: &mut K) -> Result<(), Sess
     'pieces: while !session.waiting().is_empty() {
         let waiting = session.waiting();
         let count = waiting.len();
-        if send_all(sink, waiting).is_err() {
-            return Err(SessionEnd::WriteFault);
+        match send_all(sink, waiting) {
+            Ok(()) => session.gone(count),
+            Err(_) => return Err(SessionEnd::WriteFault),
         }
-        session.gone(count);
     }
     Ok(())
 }
