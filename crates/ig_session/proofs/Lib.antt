@@ -12,6 +12,7 @@ pub mod OutboxLemmas
 pub mod AwaitLemmas
 pub mod NthLemmas
 pub mod HeldUpLemmas
+pub mod NextLemmas
 pub mod AheadLemmas
 pub mod StandLemmas
 pub mod GreetLemmas
