@@ -117,6 +117,9 @@ module _ (held now : State) (is : held ≡ now) where
   pub none_now : (empty : Bool) → IsTrue empty ↔ (held.waiting.frames ≡ []) → empty ≡ true → now.waiting.frames ≡ []
   none_now empty both e = ap (λ (s : State). s.waiting.frames) (sym is) ∙ both.0 e
 
+  pub phase_now : (phase : Phase) → held.phase ≡ phase → now.phase ≡ phase
+  phase_now phase e = ap (λ (s : State). s.phase) (sym is) ∙ e
+
   clash : false ≡ true → ⊥
   clash e = cc
 
