@@ -249,7 +249,7 @@ module _ (s : State) (input : List ℕ) (ran : List HandedAhead) (order output :
   answered_is : answered_nth s nth got ≡ settled_in s.phase left (awaited_of nth there.it) got
   answered_is = ap (λ (a : Option Awaited). answered_at a s got) found
 
-  After : State → Type 0
+  abbrev After : State → Type 0
   After new = (more : List ℕ) × (length more ≤ 1) × StandsAhead new input (with_got ran nth got) (order ++ more) output
 
   -- of an open session: the reply waits after the others

@@ -84,10 +84,10 @@ left_when (frame ∷ others) gone n le =
       | inl less ↦
           let stays = cond-true (nat_lt (gone + n) (length frame)) (record { frames = frame ∷ others; gone = gone + n }) (record { frames = others; gone = 0 }) (lt-ltb (gone + n) (length frame) less) in
           ap (λ (w : Waiting). take n (piece_at frame gone) ++ bytes_left w) stays
-          ∙ ap (λ (l : List ℕ). l ++ drop (gone + n) frame ++ joined others) piece
+          ∙ ap (λ (l : List ℕ). l ++ (drop (gone + n) frame ++ joined others)) piece
           ∙ sym (append_assoc (take n (drop gone frame)) (drop (gone + n) frame) (joined others))
           ∙ ap (λ (l : List ℕ). l ++ joined others) (
-          ap (λ (l : List ℕ). take n (drop gone frame) ++ l) (ap (λ k. drop k frame) (omega arith) ∙ sym (drop-drop n gone frame))
+          ap (λ (l : List ℕ). take n (drop gone frame) ++ l) (sym (drop-drop n gone frame))
           ∙ take-append-drop n (drop gone frame)
           )
       | inr over ↦
@@ -171,11 +171,11 @@ frame_there cfg v before after deal is =
 -- the others are the same, whatever was given for it
 pub frames_beside : (cfg : SessionCfg) (v : Version) (before after : List Deal) (asked : Asked) (one other : Option Got) (place : ℕ) → IsApart asked.request → (place ≡ length before → ⊥)
     → slice_get (frames_at cfg v (before ++ record { asked = asked; got = one } ∷ after)) place ≡ slice_get (frames_at cfg v (before ++ record { asked = asked; got = other } ∷ after)) place
-frames_beside cfg v before after asked one other place is no =
+frames_beside cfg v before after asked one other place is never =
     let later : List (List ℕ) = reply_frames (ahead_terms cfg v) (desk_after (ahead_terms cfg v) fresh_desk before) after in
     ap (λ (l : List (List ℕ)). slice_get l place) (frames_around cfg v before after (record { asked = asked; got = one }) is)
     ∙ at_other (frames_at cfg v before) (own_frame cfg v (record { asked = asked; got = one })) (own_frame cfg v (record { asked = asked; got = other })) later place
-    (λ e. no (e ∙ length_frames (ahead_terms cfg v) fresh_desk before))
+    (λ e. never (e ∙ length_frames (ahead_terms cfg v) fresh_desk before))
     ∙ sym (ap (λ (l : List (List ℕ)). slice_get l place) (frames_around cfg v before after (record { asked = asked; got = other }) is))
 
 -- a last deal changes no frame before it

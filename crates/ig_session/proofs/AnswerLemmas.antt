@@ -29,7 +29,7 @@ use Rattle.ig_session.specs.Awaiting.{awaited_of, deal_of, without_nth}
 use Rattle.ig_session.specs.States.{State}
 use Rattle.ig_session.specs.Steps.{first_out, settled_in, answered_in, answered_at, answered, IsSpent, Lacks}
 use Rattle.ig_session.specs.StandsFor.{ShowsIn, ShowsSoFar, IsIn, IsOpenAt, AwaitFrom, Stands}
-use Rattle.ig_session.proofs.StandLemmas.{push_shows, all_shown, one_lost, may_be_cut, open_frames, dealt_pending, dealt_answered, one_more_turn}
+use Rattle.ig_session.proofs.StandLemmas.{push_alone, push_shows, all_shown, one_lost, may_be_cut, open_frames, dealt_pending, dealt_answered, one_more_turn}
 use Rattle.ig_session.proofs.AskLemmas.{open_in, in_open, shows_open, open_shows, nothing_pending}
 use Rattle.ig_session.proofs.KeptLemmas.{kept_turn}
 
@@ -208,5 +208,5 @@ module _ (s : State) (input : List ℕ) (ran : List Ran) (call : Call) (got : Go
         shows = open_shows s.phase phase.0 (out_frames s.cfg session_manner stood.bodies (gots (ran ++ last ∷ []))) (after_push s.waiting shown) output phase.1
             (subst (λ (l : List (List ℕ)). ShowsSoFar l (after_push s.waiting shown) output) (sym (frames_now ∙ ap (λ (f : List ℕ). out_frames s.cfg session_manner stood.bodies (gots ran) ++ f ∷ []) shown_is))
             (push_shows (out_frames s.cfg session_manner stood.bodies (gots ran)) s.waiting shown output none_waits shows_before));
-        one = omega (arith, ap length none_waits, length-append s.waiting.frames (shown ∷ []));
+        one = let size : length (after_push s.waiting shown).frames ≡ 1 = push_alone s.waiting shown none_waits in omega (arith, size);
       })

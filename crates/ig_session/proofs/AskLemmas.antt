@@ -27,7 +27,7 @@ use Rattle.ig_session.specs.Steps.{passed, settled, handed_out}
 use Rattle.ig_session.specs.Soundness.{IsSound}
 use Rattle.ig_session.specs.StandsFor.{ShowsIn, ShowsSoFar, IsIn, IsOpenAt, AwaitFrom, Stands}
 use Rattle.ig_session.proofs.ComingLemmas.{RequestIn, comes_as, request_comes}
-use Rattle.ig_session.proofs.StandLemmas.{Reads, reads_body, push_shows, open_frames, asks_one, dealt_pending, dealt_settled, one_more_turn}
+use Rattle.ig_session.proofs.StandLemmas.{push_alone, Reads, reads_body, push_shows, open_frames, asks_one, dealt_pending, dealt_settled, one_more_turn}
 
 pub open_in : (phase : Phase) (terms : HeldTerms) (cfg : SessionCfg) (desk : Desk) (out : List Awaited) (bodies : List (List ℕ)) (ran : List Ran) → phase ≡ Open terms
     → IsIn phase cfg desk out bodies ran → IsOpenAt (terms_of terms) cfg desk bodies ran
@@ -44,12 +44,12 @@ pub open_shows : (phase : Phase) (terms : HeldTerms) (frames : List (List ℕ)) 
 open_shows phase terms frames w output is h = subst (λ (p : Phase). ShowsIn p frames w output) (sym is) h
 
 -- where no call is out, no request is pending
-nothing_pending : (nth : ℕ) (out : List Awaited) (pending : List Asked) → AwaitFrom nth out pending [] → (out ≡ []) × (pending ≡ [])
+pub nothing_pending : (nth : ℕ) (out : List Awaited) (pending : List Asked) → AwaitFrom nth out pending [] → (out ≡ []) × (pending ≡ [])
 nothing_pending nth [] pending awaited = (refl, awaited.0)
 nothing_pending nth (a ∷ out) pending awaited = let one = awaited.5 in absurd cc
 
 -- the bodies of an open session have the least length of requests
-least_open : (bodies : List (List ℕ)) (hello : List ℕ) (requests : List (List ℕ)) → bodies ≡ hello ∷ requests → client.later ≡ least_after client bodies
+pub least_open : (bodies : List (List ℕ)) (hello : List ℕ) (requests : List (List ℕ)) → bodies ≡ hello ∷ requests → client.later ≡ least_after client bodies
 least_open bodies hello requests e = ap (least_after client) (sym e)
 
 -- what holds of the state where a request comes next
@@ -58,7 +58,7 @@ module _ (s : State) (input : List ℕ) (ran : List Ran) (output : List ℕ) (te
   at = request_comes s terms asked comes
 
   none_waits : s.waiting.frames ≡ []
-  none_waits = (comes_as s (Asks terms asked) (λ no. cc) comes).none_waits
+  none_waits = (comes_as s (Asks terms asked) (λ never. cc) comes).none_waits
 
   abbrev is_open : IsOpenAt (terms_of terms) s.cfg s.desk stood.bodies ran
   is_open = open_in s.phase terms s.cfg s.desk s.out stood.bodies ran at.is_open stood.phase
@@ -123,7 +123,7 @@ module _ (s : State) (input : List ℕ) (ran : List Ran) (output : List ℕ) (te
   handed_stands call is =
       let same : dealt (stood.settled ++ asked ∷ []) (gots ran) ≡ deals = dealt_pending stood.settled asked call (gots ran) is given_is in
       let awaits : AwaitFrom (length ran) (awaited_of s.handed asked ∷ []) (asked ∷ []) (call ∷ []) =
-      (asked, [], call, [], refl, refl, is, ap (λ (n : ℕ). awaited_of n asked) (stood.count ∙ omega (arith, ap length none.0)), refl, refl) in
+      (asked, [], call, [], refl, refl, is, ap (λ (n : ℕ). awaited_of n asked) (stood.count ∙ omega (arith, ap length none.0)), (refl, refl)) in
       record {
         bodies = stood.bodies ++ at.body ∷ [];
         read = reads.read;
@@ -185,5 +185,5 @@ module _ (s : State) (input : List ℕ) (ran : List Ran) (output : List ℕ) (te
         shows = open_shows s.phase terms (out_frames s.cfg session_manner (stood.bodies ++ at.body ∷ []) (gots ran)) (after_push s.waiting frame) output at.is_open
             (subst (λ (l : List (List ℕ)). ShowsSoFar l (after_push s.waiting frame) output) (sym (frames_now (deals ++ deal ∷ []) more ∙ frames_are))
             (push_shows (hello_frame s.cfg is_open.hello ∷ reply_frames own fresh_desk deals) s.waiting frame output none_waits shows_before));
-        one = omega (arith, ap length none.0, ap length none_waits, length-append s.waiting.frames (frame ∷ []));
+        one = let size : length (settled terms s asked).waiting.frames ≡ 1 = push_alone s.waiting frame none_waits in omega (arith, ap length none.0, size);
       }

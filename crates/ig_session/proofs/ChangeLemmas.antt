@@ -65,15 +65,15 @@ refused_sound s greeting fault comes sound =
 
 -- nothing waits where a hello comes
 pub hello_first : (held s : State) (greeting : Greeting) → held ≡ passed s → coming s ≡ Greets greeting → held.waiting.frames ≡ []
-hello_first held s greeting is comes = ap (λ (h : State). h.waiting.frames) is ∙ (comes_as s (Greets greeting) (λ no. cc) comes).none_waits
+hello_first held s greeting is comes = ap (λ (h : State). h.waiting.frames) is ∙ (comes_as s (Greets greeting) (λ never. cc) comes).none_waits
 
 -- ---- lacks of memory
 
 pub lacks_same : (s new : State) (terms : HeldTerms) (asked : Asked) → coming s ≡ Asks terms asked → new ≡ s → Lacks s new
-lacks_same s new terms asked comes is = record { none_waits = (comes_as s (Asks terms asked) (λ no. cc) comes).none_waits; left = inl is }
+lacks_same s new terms asked comes is = record { none_waits = (comes_as s (Asks terms asked) (λ never. cc) comes).none_waits; left = inl is }
 
 pub lacks_spent : (s new : State) (terms : HeldTerms) (asked : Asked) → coming s ≡ Asks terms asked → IsSpent s new s.out → Lacks s new
-lacks_spent s new terms asked comes spent = record { none_waits = (comes_as s (Asks terms asked) (λ no. cc) comes).none_waits; left = inr spent }
+lacks_spent s new terms asked comes spent = record { none_waits = (comes_as s (Asks terms asked) (λ never. cc) comes).none_waits; left = inr spent }
 
 -- the desk doesn't count
 pub spent_at : (s new : State) (desk : Desk) (out : List Awaited) → IsSpent (record s { desk = desk }) new out → IsSpent s new out
@@ -103,10 +103,10 @@ turned_fresh terms own frame desk is = is.frame_is ∙ ap (λ (f : List ℕ). sh
 
 -- a session that isn't open is left as it is
 pub settled_other : (phase : Phase) (s : State) (awaited : Awaited) (got : Got) → ((terms : HeldTerms) → phase ≡ Open terms → ⊥) → settled_in phase s awaited got ≡ s
-settled_other BeforeHello s awaited got no = refl
-settled_other (Open terms) s awaited got no = absurd (no terms refl)
-settled_other (Refused fault) s awaited got no = refl
-settled_other OutOfMemory s awaited got no = refl
+settled_other BeforeHello s awaited got never = refl
+settled_other (Open terms) s awaited got never = absurd (never terms refl)
+settled_other (Refused fault) s awaited got never = refl
+settled_other OutOfMemory s awaited got never = refl
 
 -- ---- a cursor that was lost
 
@@ -136,17 +136,17 @@ fed_either (Err lack) s stream piece ok err le sound = subst (λ (t : Stream). I
 -- ---- the end of the input
 
 pub truncated_other : (phase : Phase) (rest : List ℕ) (missing : ℕ) → ((terms : HeldTerms) → phase ≡ Open terms → ⊥) → end_after phase rest missing ≡ ends.Truncated missing
-truncated_other BeforeHello rest missing no = refl
-truncated_other (Open terms) rest missing no = absurd (no terms refl)
-truncated_other (Refused fault) rest missing no = refl
-truncated_other OutOfMemory rest missing no = refl
+truncated_other BeforeHello rest missing never = refl
+truncated_other (Open terms) rest missing never = absurd (never terms refl)
+truncated_other (Refused fault) rest missing never = refl
+truncated_other OutOfMemory rest missing never = refl
 
 pub truncated_inside : (phase : Phase) (rest : List ℕ) (missing : ℕ) → (rest ≡ [] → ⊥) → end_after phase rest missing ≡ ends.Truncated missing
-truncated_inside BeforeHello rest missing no = refl
-truncated_inside (Open terms) [] missing no = absurd (no refl)
-truncated_inside (Open terms) (byte ∷ rest) missing no = refl
-truncated_inside (Refused fault) rest missing no = refl
-truncated_inside OutOfMemory rest missing no = refl
+truncated_inside BeforeHello rest missing never = refl
+truncated_inside (Open terms) [] missing never = absurd (never refl)
+truncated_inside (Open terms) (byte ∷ rest) missing never = refl
+truncated_inside (Refused fault) rest missing never = refl
+truncated_inside OutOfMemory rest missing never = refl
 
 pub ended_open : (phase : Phase) (terms : HeldTerms) (rest : List ℕ) (missing : ℕ) → phase ≡ Open terms → rest ≡ [] → end_after phase rest missing ≡ ends.Ended
 ended_open phase terms rest missing is none = ap (λ (p : Phase). end_after p rest missing) is ∙ ap (λ (l : List ℕ). end_after (Open terms) l missing) none

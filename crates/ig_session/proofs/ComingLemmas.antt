@@ -44,15 +44,15 @@ pub record ComesAs (s : State) (next : Coming) : Type 0 where
   pub by_phase : coming_in s s.phase ≡ next
 
 not_replies : (s : State) (frames : List (List ℕ)) (next : Coming) → s.waiting.frames ≡ frames → (next ≡ Replies → ⊥) → (if waits frames then Replies else coming_in s s.phase) ≡ next → ComesAs s next
-not_replies s [] next is no e = record { none_waits = is; by_phase = e }
-not_replies s (frame ∷ frames) next is no e = absurd (no (sym e))
+not_replies s [] next is never e = record { none_waits = is; by_phase = e }
+not_replies s (frame ∷ frames) next is never e = absurd (never (sym e))
 
 pub comes_as : (s : State) (next : Coming) → (next ≡ Replies → ⊥) → coming s ≡ next → ComesAs s next
 unfolding coming
-comes_as s next no e = not_replies s s.waiting.frames next refl no e
+comes_as s next never e = not_replies s s.waiting.frames next refl never e
 
 pub hello_comes : (s : State) (greeting : Greeting) → coming s ≡ Greets greeting → HelloIn s s.phase greeting
-hello_comes s greeting e = hello_in s s.phase greeting (comes_as s (Greets greeting) (λ no. cc) e).by_phase
+hello_comes s greeting e = hello_in s s.phase greeting (comes_as s (Greets greeting) (λ never. cc) e).by_phase
 
 -- ---- a request
 
@@ -84,7 +84,7 @@ request_in s (Refused fault) terms asked e = absurd cc
 request_in s OutOfMemory terms asked e = absurd cc
 
 pub request_comes : (s : State) (terms : Terms) (asked : Asked) → coming s ≡ Asks terms asked → RequestIn s s.phase terms asked
-request_comes s terms asked e = request_in s s.phase terms asked (comes_as s (Asks terms asked) (λ no. cc) e).by_phase
+request_comes s terms asked e = request_in s s.phase terms asked (comes_as s (Asks terms asked) (λ never. cc) e).by_phase
 
 -- ---- more input
 
@@ -93,21 +93,21 @@ pub record MissesIn (s : State) (phase : Phase) (missing : ℕ) : Type 0 where
   pub goes_on : (phase ≡ OutOfMemory → ⊥) × ((fault : HelloFault) → phase ≡ Refused fault → ⊥)
 
 found_missing : (s : State) (reads : List ℕ → Coming) (f : Front) (missing : ℕ) → ((body : List ℕ) → reads body ≡ Misses missing → ⊥) → found s reads f ≡ Misses missing → f ≡ Incomplete missing
-found_missing s reads (Body body rest) missing no e = absurd (no body e)
-found_missing s reads (Bad n) missing no e = absurd cc
-found_missing s reads (Incomplete n) missing no e = cc
+found_missing s reads (Body body rest) missing never e = absurd (never body e)
+found_missing s reads (Bad n) missing never e = absurd cc
+found_missing s reads (Incomplete n) missing never e = cc
 
 misses_in : (s : State) (phase : Phase) (missing : ℕ) → coming_in s phase ≡ Misses missing → MissesIn s phase missing
 misses_in s BeforeHello missing e = record {
-  part = found_missing s (λ hello. Greets (greeting_of hello)) (front_at client.first s.stream) missing (λ body no. cc) e;
-  goes_on = ((λ no. cc), (λ fault no. cc));
+  part = found_missing s (λ hello. Greets (greeting_of hello)) (front_at client.first s.stream) missing (λ body never. cc) e;
+  goes_on = ((λ never. cc), (λ fault never. cc));
 }
 misses_in s (Open terms) missing e = record {
-  part = found_missing s (λ body. Asks terms (asked_in terms.version body)) (front_at client.later s.stream) missing (λ body no. cc) e;
-  goes_on = ((λ no. cc), (λ fault no. cc));
+  part = found_missing s (λ body. Asks terms (asked_in terms.version body)) (front_at client.later s.stream) missing (λ body never. cc) e;
+  goes_on = ((λ never. cc), (λ fault never. cc));
 }
 misses_in s (Refused fault) missing e = absurd cc
 misses_in s OutOfMemory missing e = absurd cc
 
 pub misses : (s : State) (missing : ℕ) → coming s ≡ Misses missing → MissesIn s s.phase missing
-misses s missing e = misses_in s s.phase missing (comes_as s (Misses missing) (λ no. cc) e).by_phase
+misses s missing e = misses_in s s.phase missing (comes_as s (Misses missing) (λ never. cc) e).by_phase

@@ -98,7 +98,7 @@ no_scan_out out before after deal none is looks due =
     let c = not_due (call_for deal.asked.request) deal.got due in
     let nth : ℕ = calls_among before in
     let held : out ≡ out_among 0 before ++ awaited_of nth deal.asked ∷ out_among (suc nth) after =
-    is ∙ out_with before after deal.asked c.0 c.1 deal.got ∙ ap (λ (g : Option Got). out_among 0 before ++ out_next nth deal.asked g ++ out_among (suc nth) after) scan.1 in
+    is ∙ out_with before after deal.asked c.0 c.1 deal.got ∙ ap (λ (g : Option Got). out_among 0 before ++ (out_next nth deal.asked g ++ out_among (suc nth) after)) scan.1 in
     both_ways (list_any (λ (a : Awaited). is_scan a.awaits) out) none
     (ap (list_any (λ (a : Awaited). is_scan a.awaits)) held ∙ any_among (λ (a : Awaited). is_scan a.awaits) (out_among 0 before) (out_among (suc nth) after) (awaited_of nth deal.asked) scan.0)
 

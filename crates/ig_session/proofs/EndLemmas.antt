@@ -88,9 +88,9 @@ here s phase bodies f limit goes e =
 -- a stop at a length out of range
 found_stop : (s : State) (reads : List ℕ → Coming) (f : Front) (end : SessionEnd) → ((body : List ℕ) → reads body ≡ Stops end → ⊥) → found s reads f ≡ Stops end
     → (n : ℤ) × (f ≡ Bad n) × (end ≡ ends.BadFrame s.stream.place n)
-found_stop s reads (Body body rest) end no e = absurd (no body e)
-found_stop s reads (Bad n) end no e = let same : ends.BadFrame s.stream.place n ≡ end = cc in (n, refl, sym same)
-found_stop s reads (Incomplete missing) end no e = absurd cc
+found_stop s reads (Body body rest) end never e = absurd (never body e)
+found_stop s reads (Bad n) end never e = let same : ends.BadFrame s.stream.place n ≡ end = cc in (n, refl, sym same)
+found_stop s reads (Incomplete missing) end never e = absurd cc
 
 module _ (s : State) (input : List ℕ) (ran : List Ran) (output : List ℕ) (sound : IsSound s) (within : length input ≤ most_session_bytes) (stood : Stands s input ran [] output) where
   abbrev frames : List (List ℕ)
@@ -105,10 +105,10 @@ module _ (s : State) (input : List ℕ) (ran : List Ran) (output : List ℕ) (so
   stops_in : (phase : Phase) (end : SessionEnd) → s.waiting.frames ≡ [] → IsIn phase s.cfg s.desk s.out stood.bodies ran → ShowsIn phase frames s.waiting output → coming_in s phase ≡ Stops end
       → Runs s.cfg session_manner input output ran end
   stops_in BeforeHello end none is so e = stops_bad BeforeHello end none (all_shown frames s.waiting output none so) (goes_before stood.bodies is.0)
-      (found_stop s (λ hello. Greets (greeting_of hello)) (front_at client.first s.stream) end (λ body no. cc) e)
+      (found_stop s (λ hello. Greets (greeting_of hello)) (front_at client.first s.stream) end (λ body never. cc) e)
   stops_in (Open terms) end none is so e = stops_bad (Open terms) end none (all_shown frames s.waiting output none so)
       (goes_open terms stood.bodies is.hello is.requests is.accepted is.bodies_are is.greets)
-      (found_stop s (λ body. Asks terms (asked_in terms.version body)) (front_at client.later s.stream) end (λ body no. cc) e)
+      (found_stop s (λ body. Asks terms (asked_in terms.version body)) (front_at client.later s.stream) end (λ body never. cc) e)
   stops_in (Refused fault) end none is so e =
       let same : ends.HelloRefused fault ≡ end = cc in
       subst (λ (x : SessionEnd). Runs s.cfg session_manner input output ran x) same
@@ -131,7 +131,7 @@ module _ (s : State) (input : List ℕ) (ran : List Ran) (output : List ℕ) (so
 
   pub stop_is_end : (end : SessionEnd) → (next_step s).0 ≡ steps.Stop end → Runs s.cfg session_manner input output ran end
   stop_is_end end e =
-      let comes = comes_as s (Stops end) (λ no. cc) (stop_comes (coming s) end e) in
+      let comes = comes_as s (Stops end) (λ never. cc) (stop_comes (coming s) end e) in
       stops_in s.phase end comes.none_waits stood.phase stood.shows comes.by_phase
 
   -- where more input is waited for
@@ -174,7 +174,7 @@ module _ (s : State) (input : List ℕ) (ran : List Ran) (output : List ℕ) (so
       → (length input < most_session_bytes → Runs s.cfg session_manner input output ran (end_at s (coming s)) × Runs s.cfg session_manner input output ran ends.ReadFault)
       × (length input ≡ most_session_bytes → Runs s.cfg session_manner input output ran ends.ByteLimit)
   pause_is_end missing e =
-      let comes = comes_as s (Misses missing) (λ no. cc) e in
+      let comes = comes_as s (Misses missing) (λ never. cc) e in
       let both = ends_in s.phase missing stood.phase stood.shows comes.none_waits comes.by_phase (misses s missing e).part in (
         (λ less. (subst (λ (c : Coming). Runs s.cfg session_manner input output ran (end_at s c)) (sym e) (both.0 less).0, (both.0 less).1)),
         both.1,

@@ -22,7 +22,7 @@ use Rattle.ig_session.specs.Steps.{greeting_frame, greeted, opened, refused}
 use Rattle.ig_session.specs.Soundness.{IsSound}
 use Rattle.ig_session.specs.StandsFor.{ShowsIn, ShowsSoFar, IsIn, AwaitFrom, Stands}
 use Rattle.ig_session.proofs.ComingLemmas.{HelloIn, comes_as, hello_comes}
-use Rattle.ig_session.proofs.StandLemmas.{Reads, reads_body, push_shows}
+use Rattle.ig_session.proofs.StandLemmas.{push_alone, Reads, reads_body, push_shows}
 
 -- before the hello no body was read
 pub no_bodies : (phase : Phase) (cfg : SessionCfg) (desk : Desk) (out : List Awaited) (bodies : List (List ℕ)) (ran : List Ran) → phase ≡ BeforeHello → IsIn phase cfg desk out bodies ran
@@ -57,7 +57,7 @@ module _ (s : State) (input : List ℕ) (ran : List Ran) (output : List ℕ) (gr
   at = hello_comes s greeting comes
 
   none_waits : s.waiting.frames ≡ []
-  none_waits = (comes_as s (Greets greeting) (λ no. cc) comes).none_waits
+  none_waits = (comes_as s (Greets greeting) (λ never. cc) comes).none_waits
 
   before : (stood.bodies ≡ []) × (s.desk ≡ fresh_desk)
   before = no_bodies s.phase s.cfg s.desk s.out stood.bodies ran at.before stood.phase
@@ -104,7 +104,7 @@ module _ (s : State) (input : List ℕ) (ran : List Ran) (output : List ℕ) (gr
     };
     shows = subst (λ (l : List (List ℕ)). ShowsSoFar l (after_push s.waiting (greeting_frame s.cfg (Ok accepted))) output) (sym (hello_shown s.cfg at.body (Ok accepted) (gots ran) (at.greets ∙ is)))
         (subst (λ (g : Greeting). ShowsSoFar (greeting_frame s.cfg g ∷ []) (after_push s.waiting (greeting_frame s.cfg g)) output) is shows);
-    one = omega (arith, ap length none_out, ap length none_waits, length-append s.waiting.frames (greeting_frame s.cfg (Ok accepted) ∷ []));
+    one = let size : length (opened accepted.version (session_manner accepted.version) s).waiting.frames ≡ 1 = push_alone s.waiting (greeting_frame s.cfg (Ok accepted)) none_waits in omega (arith, ap length none_out, size);
   }
 
   -- after a refused one it reads no more
@@ -122,5 +122,5 @@ module _ (s : State) (input : List ℕ) (ran : List Ran) (output : List ℕ) (gr
     phase = (at.body, refl, at.greets ∙ is);
     shows = subst (λ (l : List (List ℕ)). ShowsSoFar l (after_push s.waiting (greeting_frame s.cfg (Err fault))) output) (sym (hello_shown s.cfg at.body (Err fault) (gots ran) (at.greets ∙ is)))
         (subst (λ (g : Greeting). ShowsSoFar (greeting_frame s.cfg g ∷ []) (after_push s.waiting (greeting_frame s.cfg g)) output) is shows);
-    one = omega (arith, ap length none_out, ap length none_waits, length-append s.waiting.frames (greeting_frame s.cfg (Err fault) ∷ []));
+    one = let size : length (refused fault s).waiting.frames ≡ 1 = push_alone s.waiting (greeting_frame s.cfg (Err fault)) none_waits in omega (arith, ap length none_out, size);
   }

@@ -160,13 +160,13 @@ module _ (held now : State) (is : held ≡ now) where
       let same : n ≡ missing = cc in ap ends.Truncated same
 
   pub truncated_never : {E : Type 0} (least missing : ℕ) (f : Front) → least ≡ least_in held.phase → front_at least held.stream ≡ f → ((n : ℕ) → f ≡ Incomplete n → ⊥) → coming now ≡ Misses missing → E
-  truncated_never least missing f l found no comes = absurd (no missing (sym found ∙ part_here least missing l comes))
+  truncated_never least missing f l found never comes = absurd (never missing (sym found ∙ part_here least missing l comes))
 
 -- ---- how the session ends
 
 pub end_other : (now : State) (end : SessionEnd) → IsPaused now → ((missing : ℕ) → coming now ≡ Misses missing → end ≡ ends.Truncated missing) → ((terms : Terms) → now.phase ≡ Open terms → ⊥)
     → end ≡ end_at now (coming now)
-end_other now end paused truncated no = truncated paused.0 paused.1 ∙ sym (ap (end_at now) paused.1 ∙ truncated_other now.phase now.stream.rest paused.0 no)
+end_other now end paused truncated never = truncated paused.0 paused.1 ∙ sym (ap (end_at now) paused.1 ∙ truncated_other now.phase now.stream.rest paused.0 never)
 
 pub end_inside : (now : State) (end : SessionEnd) → IsPaused now → ((missing : ℕ) → coming now ≡ Misses missing → end ≡ ends.Truncated missing) → (now.stream.rest ≡ [] → ⊥) → end ≡ end_at now (coming now)
 end_inside now end paused truncated some = truncated paused.0 paused.1 ∙ sym (ap (end_at now) paused.1 ∙ truncated_inside now.phase now.stream.rest paused.0 some)

@@ -14,7 +14,8 @@ use Rattle.ig_deals.specs.Asks.{Asked}
 use Rattle.ig_deals.specs.Deals.{Got, Had, NoMemory, call_in, call_for, Deal}
 use Rattle.ig_deals.specs.Desk.{Desk}
 use Rattle.ig_deals.specs.Replies.{Content, Maps}
-use Rattle.ig_deals.specs.Turns.{Terms, Turn, topology, caches_in, content_of, answers, run_turn, request_turn, turn_for, turn}
+use Rattle.ig_deals.specs.Telling.{topology}
+use Rattle.ig_deals.specs.Turns.{Terms, Turn, caches_in, content_of, answers, run_turn, request_turn, turn_for, turn}
 use Rattle.ig_session.specs.Awaiting.{awaits_of, request_of, awaits_in, awaited_of, deal_of}
 
 -- the call that stands for a call that is out

@@ -73,17 +73,17 @@ request_next held now least terms f is l p none e =
 
 request_said : (expected : Result Request AskFault) (read : Result Request AskFault) → (read ≡ Err ask.NoMemory → ⊥) → AnswersAs expected read
     → result_map_both (λ r. r) refusal_of read ≡ result_map_both (λ r. r) refusal_of expected
-request_said expected (Ok r) no answers = ap (result_map_both (λ r. r) refusal_of) (sym answers)
-request_said expected (Err ask.NoMemory) no answers = absurd (no refl)
-request_said expected (Err ask.NotMine) no answers = ap (result_map_both (λ r. r) refusal_of) (sym answers)
-request_said expected (Err (ask.Unread place)) no answers = ap (result_map_both (λ r. r) refusal_of) (sym answers)
-request_said expected (Err (ask.Profile profile)) no answers = ap (result_map_both (λ r. r) refusal_of) (sym answers)
+request_said expected (Ok r) never answers = ap (result_map_both (λ r. r) refusal_of) (sym answers)
+request_said expected (Err ask.NoMemory) never answers = absurd (never refl)
+request_said expected (Err ask.NotMine) never answers = ap (result_map_both (λ r. r) refusal_of) (sym answers)
+request_said expected (Err (ask.Unread place)) never answers = ap (result_map_both (λ r. r) refusal_of) (sym answers)
+request_said expected (Err (ask.Profile profile)) never answers = ap (result_map_both (λ r. r) refusal_of) (sym answers)
 
 pub said_asked : (v : Version) (body : List ℕ) (id : ℤ) (read : Result Request AskFault) → id ≡ id_in body → (read ≡ Err ask.NoMemory → ⊥) → AnswersAs (request_in v body) read
     → asked_said id read ≡ asked_in v body
 unfolding asked_in
-said_asked v body id read is no answers =
-    ap (λ (i : ℤ). asked_said i read) is ∙ ap (λ (r : Result Request Fault). record { id = id_in body; request = r }) (request_said (request_in v body) read no answers)
+said_asked v body id read is never answers =
+    ap (λ (i : ℤ). asked_said i read) is ∙ ap (λ (r : Result Request Fault). record { id = id_in body; request = r }) (request_said (request_in v body) read never answers)
 
 -- what comes next is what was read
 pub if_next : {E : Type 0} (next now : Coming) (read : Result HeldComing E) → next ≡ now → IfOk read (λ said. coming_said said ≡ next) → IfOk read (λ said. coming_said said ≡ now)

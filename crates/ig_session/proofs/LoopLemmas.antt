@@ -160,7 +160,7 @@ module _ {C : Type 0} (stands : C → PlainCaches → List (Entry Call Answer) �
   caused_answering ends.NoMemory x0 x2 y0 y1 y2 cause up held still writes = (still.counts, cause ∙ writes)
 
   pub answer_ended : {A : Type 0} (a b c : C) (s0 s1 s2 : State) (x0 x1 x2 : SourceState) (y0 y1 y2 : SinkState) (taken taken' : ℕ) (end : SessionEnd) → Going stands seat cfg a b s0 x0 x1 y0 y1 taken
-      → TakesPiece s0 s1 x1 x2 taken (Ok taken') → AnswersAll {A} stands seat b c s1 s2 y1 y2 (Err end) → Served stands seat cfg a c x0 x2 y0 y2 end
+      → TakesPiece s0 s1 x1 x2 taken (Ok taken') → AnswersAll {A = A} stands seat b c s1 s2 y1 y2 (Err end) → Served stands seat cfg a c x0 x2 y0 y2 end
   answer_ended a b c s0 s1 s2 x0 x1 x2 y0 y1 y2 taken taken' end going takes answers =
       let took = takes.continues going.input going.ran going.output going.counts going.stands_for in
       record {

@@ -85,18 +85,18 @@ AreOthers nth [] = Unit {0}
 AreOthers nth (a ∷ out) = (has_nth nth a ≡ false) × AreOthers nth out
 
 others_got : (nth n : ℕ) (a : Asked) (got : Option Got) (l : List Awaited) → (n ≡ nth → ⊥) → AreOthers nth l → AreOthers nth (out_next n a got ++ l)
-others_got nth n a None l no others = (ne_eqb n nth no, others)
-others_got nth n a (Some got) l no others = others
+others_got nth n a None l never others = (ne_eqb n nth never, others)
+others_got nth n a (Some got) l never others = others
 
 others_next : (nth n : ℕ) (deal : Deal) (c : Option Call) (ds : List Deal) → ((k : ℕ) → n ≤ k → k < n + counted c (calls_among ds) → k ≡ nth → ⊥)
     → ((m : ℕ) → ((k : ℕ) → m ≤ k → k < m + calls_among ds → k ≡ nth → ⊥) → AreOthers nth (out_among m ds)) → AreOthers nth (out_after n deal c (λ k. out_among k ds))
-others_next nth n deal None ds no go = go n no
-others_next nth n deal (Some c) ds no go =
-    others_got nth n deal.asked deal.got (out_among (suc n) ds) (no n (omega arith) (omega arith)) (go (suc n) (λ k at_least less. no k (omega (arith, at_least)) (omega (arith, less))))
+others_next nth n deal None ds never go = go n never
+others_next nth n deal (Some c) ds never go =
+    others_got nth n deal.asked deal.got (out_among (suc n) ds) (never n (omega arith) (omega arith)) (go (suc n) (λ k at_least less. never k (omega (arith, at_least)) (omega (arith, less))))
 
 others : (nth n : ℕ) (ds : List Deal) → ((k : ℕ) → n ≤ k → k < n + calls_among ds → k ≡ nth → ⊥) → AreOthers nth (out_among n ds)
-others nth n [] no = tt
-others nth n (deal ∷ ds) no = others_next nth n deal (call_for deal.asked.request) ds no (λ m. others nth m ds)
+others nth n [] never = tt
+others nth n (deal ∷ ds) never = others_next nth n deal (call_for deal.asked.request) ds never (λ m. others nth m ds)
 
 others_left : (nth : ℕ) (out : List Awaited) (a : Awaited) (later : List Awaited) → AreOthers nth out → has_nth nth a ≡ true → without_nth (out ++ a ∷ later) nth ≡ out ++ later
 others_left nth [] a later are is = ap (λ (b : Bool). cond b later (a ∷ without_nth later nth)) is
@@ -114,10 +114,10 @@ module _ (before after : List Deal) (a : Asked) (c : Call) (has_call : call_for 
   nth = calls_among before
 
   below : AreOthers nth (out_among 0 before)
-  below = others nth 0 before (λ k at_least less same. omega (arith, less, same))
+  below = others nth 0 before (λ k at_least less same. let is : k ≡ calls_among before = same in omega (arith, less, is))
 
   -- the calls that are out, whatever was given for this one
-  pub out_with : (got : Option Got) → out_among 0 (before ++ record { asked = a; got = got } ∷ after) ≡ out_among 0 before ++ out_next nth a got ++ out_among (suc nth) after
+  pub out_with : (got : Option Got) → out_among 0 (before ++ record { asked = a; got = got } ∷ after) ≡ out_among 0 before ++ (out_next nth a got ++ out_among (suc nth) after)
   out_with got =
       out_among-append 0 before (record { asked = a; got = got } ∷ after)
       ∙ ap (λ (l : List Awaited). out_among 0 before ++ l) (ap (λ (k : ℕ). out_among k (record { asked = a; got = got } ∷ after)) (omega arith) ∙ out_one nth a c got after has_call)

@@ -14,10 +14,10 @@ module _ {X : Type 0} where
   at_end (z ∷ xs) x ys = at_end xs x ys
 
   pub at_other : (xs : List X) (x y : X) (ys : List X) (place : ℕ) → (place ≡ length xs → ⊥) → slice_get (xs ++ x ∷ ys) place ≡ slice_get (xs ++ y ∷ ys) place
-  at_other [] x y ys zero no = absurd (no refl)
-  at_other [] x y ys (suc n) no = refl
-  at_other (z ∷ xs) x y ys zero no = refl
-  at_other (z ∷ xs) x y ys (suc n) no = at_other xs x y ys n (λ e. no (omega (arith, e)))
+  at_other [] x y ys zero never = absurd (never refl)
+  at_other [] x y ys (suc n) never = refl
+  at_other (z ∷ xs) x y ys zero never = refl
+  at_other (z ∷ xs) x y ys (suc n) never = at_other xs x y ys n (λ e. never (omega (arith, e)))
 
   pub at_first : (xs ys : List X) (place : ℕ) → place < length xs → slice_get (xs ++ ys) place ≡ slice_get xs place
   at_first [] ys place less = absurd (omega (arith, less))

@@ -114,6 +114,10 @@ push_shows frames w frame output none so =
       output_is = whole.1 ∙ sym (append-nil (joined so.shown));
     })
 
+-- it is the only one then
+pub push_alone : (w : Waiting) (frame : List ℕ) → w.frames ≡ [] → length (after_push w frame).frames ≡ 1
+push_alone w frame none = ap (λ (l : List (List ℕ)). length (frames_and l w.gone frame).frames) none
+
 pub all_shown : (frames : List (List ℕ)) (w : Waiting) (output : List ℕ) → w.frames ≡ [] → ShowsSoFar frames w output → output ≡ joined frames
 all_shown frames w output none so = let whole = none_left frames w output none so in whole.1 ∙ ap joined (sym whole.0)
 

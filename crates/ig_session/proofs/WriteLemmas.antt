@@ -1,8 +1,8 @@
 -- Bytes that are written keep what a session stands for.
-use Rattle.std.proofs.Common.{◌≡◌, refl, ℕ, ◌+◌, ◌-◌, ◌<◌, ◌≤◌, inl, inr, List, [], ◌∷◌, ◌++◌, length, take, drop, sym, ap, ◌∙◌, subst, arith}
+use Rattle.std.proofs.Common.{◌≡◌, refl, ℕ, ◌+◌, ◌-◌, ◌<◌, ◌≤◌, inl, inr, List, [], ◌∷◌, ◌++◌, length, take, drop, sym, ap, ◌∙◌, subst, arith, take-add}
 use Rattle.std.specs.Prelude.{min, nat_lt}
 use Rattle.std.proofs.lemmas.Bool.{le-ltb, lt-ltb, cond-true, cond-false, cases_lt}
-use Rattle.std.proofs.lemmas.List.{append-nil, append_assoc, length-take, take-take, take-add, take_all}
+use Rattle.std.proofs.lemmas.List.{append-nil, append_assoc, length-take, take-take, take_all}
 use Rattle.ig_caches.specs.declared.call.Call.{Call}
 use Rattle.ig_deals.specs.Deals.{Ran, gots}
 use Rattle.ig_deals.specs.Telling.{session_manner}

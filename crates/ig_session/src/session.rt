@@ -39,13 +39,13 @@ pub struct Session {
 
 impl Model for Session {
     ghost use Rattle.std.specs.Coded.{codes};
-    ghost use Rattle.ig_deals.specs.contracts.desk.Desk as desk;
+    ghost use Rattle.ig_value.specs.contracts.value.Value as value;
     ghost use Rattle.ig_session.specs.States.{State, state_of};
     ghost use Rattle.ig_session.specs.Soundness.{IsSound};
 
     ghost Value = { State };
 
-    ghost coded = { Prim.hlevel (codes, desk.the_row.coded) };
+    ghost coded = { Prim.hlevel (codes, value.the_row.coded) };
 
     ghost view = { λ s. state_of s.cfg s.frames s.phase s.desk s.out.items s.handed s.outbox };
 
