@@ -1,12 +1,13 @@
 -- What waits in an outbox.
-use Rattle.std.proofs.Common.{◌≡◌, inl, inr, ℕ, ◌+◌, ◌-◌, ◌<◌, ◌≤◌, List, [], ◌∷◌, ◌++◌, length, take, drop, refl, sym, ap, ◌∙◌, arith}
-use Rattle.std.specs.Prelude.{◌%◌, ◌↔◌, true, false, IsTrue, nat_lt, if◌then◌else◌}
+use Rattle.std.proofs.Common.{◌≡◌, inl, inr, ℕ, ◌+◌, ◌-◌, ◌<◌, ◌≤◌, List, [], ◌∷◌, ◌++◌, Result, Ok, Err, length, take, drop, refl, sym, ap, ◌∙◌, subst, arith}
+use Rattle.std.specs.Prelude.{◌%◌, ◌↔◌, OnOk, OnErr, true, false, IsTrue, nat_lt, if◌then◌else◌}
 use Rattle.std.proofs.lemmas.Bool.{le-ltb, lt-ltb, cond-true, cond-false, cases_lt}
 use Rattle.std.proofs.lemmas.List.{length-drop, take_all, take_rest}
 use Rattle.ig_wire.specs.Limits.{piece_bytes}
 use Rattle.ig_deals.specs.Pieces.{piece_left, piece_at}
-use Rattle.ig_replies.specs.Showing.{Waiting, piece_shown, after_gone, after_push, frames_and}
-use Rattle.ig_session.specs.Outboxes.{waiting_after}
+use Rattle.ig_replies.specs.Showing.{Waiting, waiting_none, piece_shown, after_gone, after_push, frames_and}
+use Rattle.ig_session.specs.Outboxes.{waiting_after, IsOutbox}
+use Rattle.ig_session.proofs.SoundLemmas.{gone_idle, push_idle}
 
 -- bytes of the reply to the hello are left
 pub hello_first : (hello : List ℕ) (gone : ℕ) (replies : Waiting) → gone < length hello → waiting_after hello gone replies ≡ record { frames = hello ∷ replies.frames; gone = gone }
@@ -92,3 +93,51 @@ module _ (hello : List ℕ) (gone : ℕ) (replies now : Waiting) (is : waiting_a
     λ e. absurd (omega (arith, lt, length-drop gone hello, ap length (sym (take_rest seen gone ∙ ap (drop gone) same) ∙ e))),
     λ e. absurd (some_first hello replies.frames (sym (frames_first lt) ∙ e)),
   )
+
+  pub pushed_ok : {A E : Type 0} (result : Result A E) (new : Waiting) (frame : List ℕ) → (gone < length hello → replies.gone ≡ 0) → OnOk result (new ≡ after_push replies frame)
+      → OnOk result (waiting_after hello gone new ≡ after_push now frame)
+  pushed_ok (Ok done) new frame first e =
+      ap (waiting_after hello gone) e ∙ reply_waits hello gone replies frame first ∙ ap (λ (w : Waiting). after_push w frame) is
+  pushed_ok (Err lack) new frame first e = tt
+
+  pub pushed_err : {A E : Type 0} (result : Result A E) (new : Waiting) → OnErr result (new ≡ replies) → OnErr result (waiting_after hello gone new ≡ now)
+  pushed_err (Ok done) new e = tt
+  pushed_err (Err lack) new e = ap (waiting_after hello gone) e ∙ is
+
+-- ---- what holds of every outbox
+
+pub pushed_keeps : {A E : Type 0} (result : Result A E) (hello : List ℕ) (gone : ℕ) (replies new : Waiting) (frame : List ℕ) → OnOk result (new ≡ after_push replies frame) → OnErr result (new ≡ replies)
+    → IsOutbox hello gone replies → IsOutbox hello gone new
+pushed_keeps (Ok done) hello gone replies new frame ok err box = subst (IsOutbox hello gone) (sym ok) (record {
+  short = box.short;
+  first = λ lt. push_first replies frame (box.first lt);
+  idle = push_idle replies frame;
+})
+pushed_keeps (Err lack) hello gone replies new frame ok err box = subst (IsOutbox hello gone) (sym err) box
+
+pub greeted_keeps : (hello : List ℕ) (gone : ℕ) (replies : Waiting) (frame : List ℕ) → (waiting_after hello gone replies).frames ≡ [] → length frame ≤ piece_bytes → IsOutbox hello gone replies → IsOutbox frame 0 replies
+greeted_keeps hello gone replies frame none short box = record {
+  short = short;
+  first = λ lt. box.idle (none_after hello gone replies none).1;
+  idle = box.idle;
+}
+
+pub written_hello : (hello : List ℕ) (gone count : ℕ) (replies : Waiting) → gone < length hello → IsOutbox hello gone replies → IsOutbox hello (gone + count) replies
+written_hello hello gone count replies lt box = record { short = box.short; first = λ more. box.first lt; idle = box.idle }
+
+pub written_replies : (hello : List ℕ) (gone count : ℕ) (replies new : Waiting) → length hello ≤ gone → new ≡ after_gone replies count → IsOutbox hello gone replies → IsOutbox hello gone new
+written_replies hello gone count replies new le e box = subst (IsOutbox hello gone) (sym e) (record {
+  short = box.short;
+  first = λ lt. absurd (omega (arith, lt, le));
+  idle = gone_idle replies count;
+})
+
+pub new_outbox : (hello : List ℕ) (replies : Waiting) → hello ≡ [] → replies ≡ waiting_none → IsOutbox hello 0 replies
+new_outbox hello replies h r = record {
+  short = omega (arith, ap length h);
+  first = λ lt. absurd (omega (arith, lt, ap length h));
+  idle = λ none. ap (λ (w : Waiting). w.gone) r;
+}
+
+pub new_waits : (hello : List ℕ) (replies : Waiting) → hello ≡ [] → replies ≡ waiting_none → waiting_after hello 0 replies ≡ waiting_none
+new_waits hello replies h r = hello_gone hello 0 replies (omega (arith, ap length h)) ∙ r
