@@ -1,6 +1,6 @@
 -- Queues of frames, and the pieces that are shown of them.
 use Rattle.std.proofs.Common.{◌≡◌, refl, ℕ, ◌+◌, ◌-◌, ◌<◌, ◌≤◌, List, [], ◌∷◌, ◌++◌, map, length, take, drop, sym, ap, subst, ◌∙◌, arith}
-use Rattle.std.specs.Prelude.{◌%◌, ◌↔◌, min, nat_lt, Bool, false, true, IsTrue, is_none, is_some, Option, None, Some, if◌then◌else◌}
+use Rattle.std.specs.Prelude.{◌%◌, ◌↔◌, min, nat_lt, Bool, false, true, IsTrue, is_none, is_some, option_to_list, Option, None, Some, if◌then◌else◌}
 use Rattle.std.specs.List.{AllByRecursion}
 use Rattle.std.proofs.lemmas.Bool.{le-ltb, lt-ltb, cond-true, cond-false}
 use Rattle.std.proofs.lemmas.List.{length-take, length-drop, map-append}
@@ -177,21 +177,13 @@ none_waits (Some s) piece later b is = (λ e. absurd (clash (sym is ∙ e)), λ 
   clash : false ≡ true → ⊥
   clash h = cc
 
--- a list of no bytes
-pub no_bytes : (xs : List ℕ) → length xs ≡ 0 → xs ≡ []
-no_bytes [] none = refl
-no_bytes (x ∷ xs) none = absurd (omega (arith, none))
-
 -- ---- what the parts are after each step
 
-clash_some : {s : Showing} → Some s ≡ None → ⊥
-clash_some h = cc
-
 -- no frame is shown
-pub none_is : (first : Option Showing) (piece : List ℕ) (later : List Showing) → first ≡ None → piece ≡ [] → IsSpentQueue first later
+pub none_is : (first : Option Showing) (piece : List ℕ) (later : List Showing) → ((s : Showing) → first ≡ Some s → ⊥) → piece ≡ [] → IsSpentQueue first later
     → IsQueue first piece later × (waiting_in first piece later ≡ waiting_spent first later)
-none_is None piece later e empty spent = ((empty, spent), refl)
-none_is (Some s) piece later e empty spent = absurd (clash_some e)
+none_is None piece later never empty spent = ((empty, spent), refl)
+none_is (Some s) piece later never empty spent = absurd (never s refl)
 
 -- the next piece of the frame was taken, and has some bytes
 pub next_is : (s now : Showing) (piece : List ℕ) (later : List Showing) → IsSpentQueue (Some s) later → 0 < length piece
@@ -220,6 +212,10 @@ begun_waiting s now piece fresh piece_is now_is later =
     ap (λ (x : Showing). waiting_in (Some x) piece later) now_is
     ∙ ap (λ (p : List ℕ). waiting_in (Some (record s { gone = s.gone + length p })) p later) piece_is ∙ first_waiting s later fresh
 
+-- what stands first goes
+pub popped : (r : Option Showing) (next : Showing) (later more : List Showing) → r ≡ Some next → later ≡ option_to_list r ++ more → later ≡ next ∷ more
+popped r next later more e is = is ∙ ap (λ (o : Option Showing). option_to_list o ++ more) e
+
 -- the first frame is gone, and another one waits
 pub over_is : (s next : Showing) (later more : List Showing) → IsSpentQueue (Some s) later → later ≡ next ∷ more → taken_from s ≡ []
     → (IsFresh next × AllByRecursion IsFresh more) × (waiting_spent (Some s) later ≡ record { frames = next.frame ∷ frames_of more; gone = 0 })
@@ -243,10 +239,21 @@ pushed_is None piece later s e is fresh = absurd (clash e) where
   clash h = cc
 pushed_is (Some x) piece later s e is fresh = (push_queue x piece later s is fresh, push_waiting x piece later s)
 
--- none waits before the first one
-pub unbegun : (first : Option Showing) (piece : List ℕ) (later : List Showing) → is_some first ≡ false → IsQueue first piece later
-    → (later ≡ []) × (waiting_in first piece later ≡ waiting_none)
-unbegun None piece later e is = (is.1, refl)
-unbegun (Some x) piece later e is = absurd (clash e) where
+-- where none waits, a frame that comes is the first one
+pub first_pushed : (first : Option Showing) (piece : List ℕ) (later : List Showing) (frame : List ℕ) → is_some first ≡ false → IsQueue first piece later
+    → AllByRecursion IsFresh later × (record { frames = frame ∷ frames_of later; gone = 0 } ≡ after_push (waiting_in first piece later) frame)
+first_pushed None piece later frame e is =
+    let none : later ≡ [] = is.1 in (
+      subst (λ (l : List Showing). AllByRecursion IsFresh l) (sym none) tt,
+      ap (λ (l : List Showing). record { frames = frame ∷ frames_of l; gone = 0 }) none,
+    )
+first_pushed (Some x) piece later frame e is = absurd (clash e) where
   clash : true ≡ false → ⊥
   clash h = cc
+
+-- where there is a first frame, some frame waits
+pub some_waits : (first : Option Showing) (piece : List ℕ) (later : List Showing) → is_some first ≡ true → (waiting_in first piece later).frames ≡ [] → ⊥
+some_waits None piece later e none = clash e where
+  clash : false ≡ true → ⊥
+  clash h = cc
+some_waits (Some x) piece later e none = omega (arith, ap length none)

@@ -9,12 +9,24 @@ use Rattle.ig_wire.specs.Limits.{most_cursors}
 use Rattle.ig_deals.specs.declared.manner.Manner.{Manner}
 use Rattle.ig_deals.specs.declared.manner.Manner.TheVariants.{Never}
 use Rattle.ig_deals.specs.Telling.{tells}
-use Rattle.ig_deals.specs.Desk.{Cursor, Desk, has_more, cursor_at, without}
+use Rattle.ig_base.specs.declared.Topology.{Topology}
+use Rattle.ig_wire.specs.declared.version.Version.{Version}
+use Rattle.ig_caches.specs.declared.call.Pair.{Pair}
+use Rattle.ig_caches.specs.declared.call.Call.TheVariants as call
+use Rattle.ig_caches.specs.declared.answer.Outcome.{Outcome}
+use Rattle.ig_caches.specs.declared.answer.Outcome.TheVariants as outcome
+use Rattle.ig_caches.specs.declared.request.Request.TheVariants.{Scan}
+use Rattle.ig_caches.specs.declared.request.Shown.TheVariants.{Page}
+use Rattle.ig_deals.specs.Deals.{Had}
+use Rattle.ig_deals.specs.Telling.{told_after}
+use Rattle.ig_deals.specs.Desk.{Cursor, Desk, page_of, has_more, after_page, cursor_at, without}
 use Rattle.ig_deals.specs.Faults.{fault_of}
-use Rattle.ig_deals.specs.Replies.{Fails}
-use Rattle.ig_deals.specs.Turns.{Terms, telling, answers, page_content, first_page, scanned}
+use Rattle.ig_deals.specs.Replies.{Reply, Shows, Fails, reply_frame, fits, shortened}
+use Rattle.ig_deals.specs.Turns.{Terms, telling, answers, content_of, page_content, open_after, first_page, scanned, cursor_for, pairs_in, scan_answer, next_page, request_turn}
 use Rattle.ig_deals.proofs.CursorLemmas.{found_has, without_none, without_fewer}
 use Rattle.ig_deals.proofs.TakeLemmas.{without_absent}
+use Rattle.ig_replies.specs.Showing.{Showing, showing}
+use Rattle.ig_replies.specs.Turned.{IsTurned}
 
 -- ---- what may be told
 
@@ -65,7 +77,91 @@ too_many terms desk id minor cursor e full =
     cond-true (has_more cursor && nat_le most_cursors (length desk.cursors)) _ _
     (ap (λ (b : Bool). b && nat_le most_cursors (length desk.cursors)) e ∙ full)
 
--- ---- after a page
+-- results without rows
+pub no_rows : (o : Outcome) → ((rows : List Pair) → o ≡ outcome.Pairs rows → ⊥) → pairs_in o ≡ None
+no_rows (outcome.Pairs rows) never = absurd (never rows refl)
+no_rows outcome.Done never = refl
+no_rows (outcome.Found v) never = refl
+no_rows (outcome.Yes b) never = refl
+no_rows (outcome.Count n) never = refl
+no_rows (outcome.Names names) never = refl
+no_rows (outcome.Name name) never = refl
+no_rows (outcome.Meta meta) never = refl
+no_rows (outcome.Keys pairs) never = refl
+no_rows (outcome.Refused why) never = refl
+
+-- what a scan is replied whose call has rows
+pub scan_shows : (terms : Terms) (desk : Desk) (id cache page minor : ℤ) (rows : List Pair) (cursor : Cursor) → cursor ≡ cursor_for desk page rows
+    → scanned terms desk id minor cursor
+    ≡ request_turn terms desk id (Scan cache page) (Some (Had (record { minor = minor; outcome = outcome.Pairs rows })))
+scan_shows terms desk id cache page minor rows cursor e = ap (scanned terms desk id minor) e
+
+-- and one whose call has none
+pub scan_fails : (terms : Terms) (desk : Desk) (id cache page minor : ℤ) (o : Outcome) → pairs_in o ≡ None
+    → answers terms desk id minor (content_of terms.cfg (call.Scan cache) minor o)
+    ≡ request_turn terms desk id (Scan cache page) (Some (Had (record { minor = minor; outcome = o })))
+scan_fails terms desk id cache page minor o e =
+    ap (λ (r : Option (List Pair)). scan_answer terms desk id cache page (record { minor = minor; outcome = o }) r) (sym e)
+
+-- ---- pages
+
+-- the reply with a page
+abbrev pub page_reply : ℤ → Option Topology → Option ℤ → List Pair → Bool → Reply
+page_reply id told number rows more = record {
+  id = id;
+  told = told;
+  content = Shows (Page (record { cursor = number; rows = rows; more = more }));
+}
+
+pub page_is : (id : ℤ) (told said : Option Topology) (number shown : Option ℤ) (rows : List Pair) (more : Bool) (cursor : Cursor)
+    → told ≡ said → number ≡ shown → rows ≡ page_of cursor → more ≡ has_more cursor
+    → page_reply id told number rows more ≡ record { id = id; told = said; content = page_content shown cursor }
+page_is id told said number shown rows more cursor told_is number_is rows_are more_is =
+    ap (λ (t : Option Topology). page_reply id t number rows more) told_is
+    ∙ ap (λ (n : Option ℤ). page_reply id said n rows more) number_is
+    ∙ ap (λ (rs : List Pair). page_reply id said shown rs more) rows_are
+    ∙ ap (page_reply id said shown (page_of cursor)) more_is
+
+-- the cursor that is open after a page
+abbrev pub opened : Version → Bool → Cursor → Reply → List Cursor
+opened v more left page = if more && fits v page then left ∷ [] else []
+
+opened_is : (v : Version) (more : Bool) (left cursor : Cursor) (page said : Reply) → more ≡ has_more cursor → left ≡ after_page cursor → page ≡ said
+    → opened v more left page ≡ open_after v said cursor
+opened_is v more left cursor page said more_is left_is page_is =
+    ap (λ (m : Bool). opened v m left page) more_is
+    ∙ ap (λ (c : Cursor). opened v (has_more cursor) c page) left_is
+    ∙ ap (opened v (has_more cursor) (after_page cursor)) page_is
+
+-- the first page of a cursor, which drew its number
+pub first_turned : (terms : Terms) (desk before now : Desk) (minor : ℤ) (cursor left : Cursor) (page said : Reply) (more : Bool) (frame : Showing)
+    → before ≡ record { cursors = desk.cursors; next = suc desk.next; told = told_after terms.manner desk.told minor }
+    → page ≡ said → more ≡ has_more cursor → left ≡ after_page cursor
+    → frame ≡ showing (reply_frame terms.version (shortened terms.version page))
+    → now ≡ record before { cursors = before.cursors ++ opened terms.version more left page }
+    → IsTurned terms (first_page terms desk minor cursor said) frame now
+first_turned terms desk before now minor cursor left page said more frame before_is page_is more_is left_is frame_is now_is = record {
+  frame_is = frame_is ∙ ap (λ (p : Reply). showing (reply_frame terms.version (shortened terms.version p))) page_is;
+  desk_is = now_is
+      ∙ ap (λ (d : Desk). record d { cursors = d.cursors ++ opened terms.version more left page }) before_is
+      ∙ ap (λ (cs : List Cursor). record { cursors = desk.cursors ++ cs; next = suc desk.next; told = told_after terms.manner desk.told minor })
+      (opened_is terms.version more left cursor page said more_is left_is page_is);
+}
+
+-- a next page of a cursor, which was taken out of the others
+pub next_turned : (terms : Terms) (desk before now : Desk) (number : ℤ) (cursor left : Cursor) (page said : Reply) (more : Bool) (frame : Showing)
+    → before ≡ record desk { cursors = without desk.cursors number }
+    → page ≡ said → more ≡ has_more cursor → left ≡ after_page cursor
+    → frame ≡ showing (reply_frame terms.version (shortened terms.version page))
+    → now ≡ record before { cursors = before.cursors ++ opened terms.version more left page }
+    → IsTurned terms (next_page terms desk number cursor said) frame now
+next_turned terms desk before now number cursor left page said more frame before_is page_is more_is left_is frame_is now_is = record {
+  frame_is = frame_is ∙ ap (λ (p : Reply). showing (reply_frame terms.version (shortened terms.version p))) page_is;
+  desk_is = now_is
+      ∙ ap (λ (d : Desk). record d { cursors = d.cursors ++ opened terms.version more left page }) before_is
+      ∙ ap (λ (cs : List Cursor). record desk { cursors = without desk.cursors number ++ cs })
+      (opened_is terms.version more left cursor page said more_is left_is page_is);
+}
 
 -- the cursor opens, or it doesn't
 abbrev pub opened_if : Desk → Bool → Cursor → Desk

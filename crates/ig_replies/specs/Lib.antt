@@ -1,3 +1,4 @@
+pub mod HeadProps
 pub mod Contents
 pub mod Results
 pub mod FrameParts

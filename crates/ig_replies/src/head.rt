@@ -6,6 +6,7 @@ ghost use Rattle.ig_base.specs.Numbers.{LE};
 ghost use Rattle.ig_wire.specs.Versions.{has_flags as version_has_flags};
 ghost use Rattle.ig_wire.specs.Heads.{head_bytes, MayTell, HasShortText};
 ghost use Rattle.ig_wire.specs.HeadViews.{owned_faults, owned_head};
+ghost use Rattle.ig_replies.specs.HeadProps.{MayTell-prop, HasShortText-prop};
 
 use ig_encode::{Output, ValueOutput, put_count};
 use ig_fields::Message;
@@ -16,8 +17,8 @@ use ig_wire::{HeadView, Version, put_head};
 pub(crate) struct Head<'a> {
     pub(crate) version: Version,
     pub(crate) view: HeadView<'a>,
-    ghost may: { MayTell (version_has_flags version) view.told (owned_faults view.fault) },
-    ghost small: { HasShortText (owned_faults view.fault) },
+    ghost may: { MayTell (version_has_flags version) view.told (owned_faults view.fault) } by { MayTell-prop (version_has_flags version) view.told (owned_faults view.fault) },
+    ghost small: { HasShortText (owned_faults view.fault) } by { HasShortText-prop (owned_faults view.fault) },
 }
 
 impl Message for Head<'_> {

@@ -32,6 +32,3 @@ pub use reply::{Content, Reply};
 pub use reply_frame::ReplyFrame;
 pub use terms::Terms;
 pub use turns::{answer, answer_scan, close, lacks_memory, next_page, refuse};
-
-#[cfg(test)]
-mod tests;

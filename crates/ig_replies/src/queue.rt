@@ -38,7 +38,7 @@ impl Model for Queue {
 }
 
 impl Queue {
-    ghost use Rattle.std.specs.Prelude.{◌≡◌, ◌≤◌, [], length, IfOk, OnOk, OnErr, IsTrue, ◌↔◌};
+    ghost use Rattle.std.specs.Prelude.{◌≡◌, ◌≤◌, [], length, Ok, IfOk, OnOk, OnErr, IsTrue, ◌↔◌};
     ghost use Rattle.ig_replies.specs.Showing.{waiting_none, piece_shown, after_gone, after_push, showing};
 
     /// An empty queue. It takes the room for the pieces.
@@ -67,11 +67,12 @@ impl Queue {
         self.piece.left()
     }
 
-    /// Adds a reply of which nothing is gone after the others. Where it comes first it takes no memory. On
-    /// an error the queue is as before.
+    /// Adds a reply of which nothing is gone after the others. Where no other waits it takes no memory, and
+    /// gives no error. On an error the queue is as before.
     pub fn push(&mut self, frame: ReplyFrame) -> Result<(), NoMemory>
         requires { frame ≡ showing frame.frame }
         ensures ok { OnOk result (self.new ≡ after_push self.old frame.frame) }
+        ensures first { self.old.frames ≡ [] → result ≡ Ok tt }
         ensures err { OnErr result (self.new ≡ self.old) }
     {
         if self.first.is_some() {

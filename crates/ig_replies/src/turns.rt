@@ -6,7 +6,7 @@ ghost use Rattle.ig_deals.specs.Deals.{Had};
 ghost use Rattle.ig_deals.specs.Faults.{refusal_of};
 ghost use Rattle.ig_deals.specs.Desk.{Desk as a_desk, has_more, cursor_at, without};
 ghost use Rattle.ig_deals.specs.Replies.{fault_in, reply_frame, fits, shortened};
-ghost use Rattle.ig_deals.specs.Turns.{untold, telling, answers, no_memory, page_content, first_page, scanned, turn_for, request_turn};
+ghost use Rattle.ig_deals.specs.Turns.{untold, telling, answers, no_memory, page_content, page_size, first_page, scanned, turn_for, request_turn};
 ghost use Rattle.ig_wire.specs.Heads.{HasShortText};
 ghost use Rattle.ig_wire.specs.Limits.{most_cursors};
 ghost use Rattle.ig_replies.specs.Contents.{content_said, reply_said, MayBeShown};
@@ -124,14 +124,23 @@ pub fn answer_scan(
     let Answer { minor, outcome } = given;
     match outcome {
         Outcome::Pairs(rows) => {
-            let size = u32::try_from(page).unwrap_or(0);
-            let cursor = OpenCursor::new(desk.next_number(), size, rows);
+            let cursor = OpenCursor::new(desk.next_number(), page_size(page), rows);
             first_page(terms, desk, id, minor, cursor)
         }
         outcome => {
             let content = content_of(alloc, terms.cfg, &Call::Scan { cache }, minor, outcome)?;
             Ok(tell(terms, desk, id, minor, content))
         }
+    }
+}
+
+/// How many rows a page has, where a scan asks for this many.
+fn page_size(page: i32) -> u32
+    ensures { result ≡ page_size page }
+{
+    match u32::try_from(page) {
+        Ok(size) => size,
+        Err(_) => 0,
     }
 }
 

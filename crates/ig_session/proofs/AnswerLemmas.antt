@@ -1,7 +1,7 @@
 -- An answer keeps what a session stands for.
 use Rattle.std.proofs.Common.{◌≡◌, ℕ, ◌+◌, ◌≤◌, List, [], ◌∷◌, ◌++◌, length, Option, Some, refl, sym, ap, ◌∙◌, subst, arith, append-nil, length-append}
 use Rattle.std.proofs.lemmas.List.{map-append}
-use Rattle.std.specs.Prelude.{Bool, cond, not}
+use Rattle.std.specs.Prelude.{Bool, cond}
 use Rattle.std.proofs.lemmas.Bool.{eq-eqb}
 use Rattle.std.specs.List.{cons_option}
 use Rattle.ig_base.specs.Numbers.{AreBytes}
@@ -71,7 +71,7 @@ open_phase OutOfMemory cfg desk out bodies ran settled asked a is all one = absu
 
 -- without its only call, none is out
 none_left : (a : Awaited) → without_nth (a ∷ []) a.nth ≡ []
-none_left a = ap (λ (b : Bool). cond (not b) (a ∷ []) []) (eq-eqb a.nth a.nth refl)
+none_left a = ap (λ (b : Bool). cond b [] (a ∷ [])) (eq-eqb a.nth a.nth refl)
 
 module _ (s : State) (input : List ℕ) (ran : List Ran) (call : Call) (got : Got) (output : List ℕ) (stood : Stands s input ran (call ∷ []) output) where
   abbrev it : OneOut (length ran) s.out stood.pending call

@@ -1,7 +1,8 @@
 -- Histories of callers.
-use Rattle.std.proofs.Common.{◌≡◌, ℕ, List, [], ◌∷◌, ◌++◌, Result, Ok, Err, IfOk, OnOk, refl, sym, ap, subst, ◌∙◌, append_assoc, append-nil}
+use Rattle.std.proofs.Common.{◌≡◌, ℕ, List, [], ◌∷◌, ◌++◌, Result, Ok, Err, IfOk, OnOk, OnErr, refl, sym, ap, subst, ◌∙◌, append_assoc, append-nil}
 use Rattle.std.proofs.lemmas.Grind.{flat_map-append}
 use Rattle.ig_base.specs.declared.entry.Entry.{Entry}
+use Rattle.ig_base.specs.declared.memory.NoRoom.{NoRoom}
 use Rattle.ig_caches.specs.declared.call.Call.{Call}
 use Rattle.ig_caches.specs.declared.answer.Answer.{Answer}
 use Rattle.ig_caches.specs.PlainCaches.{PlainCaches}
@@ -10,6 +11,7 @@ use Rattle.ig_caches.specs.Legal.{Legal, caches_after}
 use Rattle.ig_deals.specs.Deals.{Ran, entry_of, entries_of}
 use Rattle.ig_session.specs.Histories.{AreUnder, StandsOn}
 use Rattle.ig_session.specs.StandsAlone.{StandsAlone}
+use Rattle.ig_session.specs.Steps.{given}
 use Rattle.ig_session.specs.declared.caller.Alone.{Alone}
 
 -- ---- a caller that owns its object
@@ -64,3 +66,10 @@ pub joins_keeps : {C : Type 0} (stands : C → PlainCaches → List (Entry Call 
     → StandsOn stands b c (entries_of seat ys) → StandsOn stands a c (entries_of seat (xs ++ ys))
 joins_keeps stands seat a b c xs ys first second =
     subst (StandsOn stands a c) (sym (entries-append seat xs ys)) (StandsOn-then stands a b c (entries_of seat xs) (entries_of seat ys) first second)
+
+-- a call was run, with an answer or without memory for it
+pub given_stands : {C : Type 0} (stands : C → PlainCaches → List (Entry Call Answer) → Type 0) (seat : ℕ) (a b : C) (call : Call) (result : Result Answer (NoRoom Call))
+    → IfOk result (λ answer. StandsOn stands a b (record { seat = seat; ask = call; got = answer } ∷ [])) → OnErr result (StandsOn stands a b [])
+    → StandsOn stands a b (entry_of seat call (given result))
+given_stands stands seat a b call (Ok answer) ok err = ok
+given_stands stands seat a b call (Err lack) ok err = err

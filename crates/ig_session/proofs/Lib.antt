@@ -1,5 +1,19 @@
 pub mod HistoryLemmas
 pub mod ComingLemmas
+pub mod SoundLemmas
+pub mod ChangeLemmas
+pub mod HelloFrameLemmas
+pub mod TakenLemmas
+pub mod HeldLemmas
+pub mod FrontLemmas
+pub mod LookLemmas
+pub mod RequestLemmas
+pub mod OutboxLemmas
+pub mod AwaitLemmas
+pub mod NthLemmas
+pub mod HeldUpLemmas
+pub mod NextLemmas
+pub mod AheadLemmas
 pub mod StandLemmas
 pub mod GreetLemmas
 pub mod AskLemmas
@@ -11,7 +25,6 @@ pub mod EndLemmas
 pub mod PlaceLemmas
 pub mod ApartLemmas
 pub mod OutLemmas
-pub mod AheadLemmas
 pub mod DueLemmas
 pub mod StandsByLemmas
 pub mod AheadGreetLemmas
@@ -19,5 +32,7 @@ pub mod AheadStepLemmas
 pub mod AheadAnswerLemmas
 pub mod TakeLemmas
 pub mod SinceLemmas
+pub mod SendLemmas
+pub mod ProgressLemmas
+pub mod AnswerAllLemmas
 pub mod LoopLemmas
-pub mod SoundLemmas

@@ -14,12 +14,14 @@ use Rattle.ig_deals.specs.declared.end.SessionEnd.TheVariants as ends
 use Rattle.ig_deals.specs.Deals.{Ran, entries_of}
 use Rattle.ig_deals.specs.Telling.{session_manner}
 use Rattle.ig_deals.specs.Serves.{Runs}
+use Rattle.ig_session.specs.Cfg.{IsCfg}
 use Rattle.ig_session.specs.States.{State, new_state}
 use Rattle.ig_session.specs.Comings.{Misses, coming, IsPaused}
 use Rattle.ig_session.specs.Serving.{HasEnded, IsStillOpen, ReadHasFailed, WriteHasFailed, AnswersAll, TakesPiece, EndsAnswering, EndsTaking, IsCaused, Served, Going}
 use Rattle.ig_session.proofs.HistoryLemmas.{StandsOn-nothing, joins_keeps}
 use Rattle.ig_session.proofs.StandLemmas.{new_stands}
 use Rattle.ig_session.proofs.SinceLemmas.{held_not}
+use Rattle.ig_session.proofs.SoundLemmas.{new_sound}
 
 pub nothing_ran : (cfg : SessionCfg) → Runs cfg session_manner [] [] [] ends.NoMemory
 nothing_ran cfg = record {
@@ -50,8 +52,8 @@ module _ {C : Type 0} (stands : C → PlainCaches → List (Entry Call Answer) �
     caused = (refl, refl);
   }
 
-  pub going_start : (caller : C) (source : SourceState) (sink : SinkState) → Going stands seat cfg caller caller (new_state cfg) source source sink sink 0
-  going_start caller source sink = record {
+  pub going_start : (caller : C) (source : SourceState) (sink : SinkState) → IsCfg cfg → Going stands seat cfg caller caller (new_state cfg) source source sink sink 0
+  going_start caller source sink is = record {
     input = [];
     output = [];
     ran = [];
@@ -65,6 +67,7 @@ module _ {C : Type 0} (stands : C → PlainCaches → List (Entry Call Answer) �
     no_read_fault = refl;
     no_write_fault = refl;
     stands_for = new_stands cfg;
+    sound = new_sound cfg is;
     paused = new_paused cfg;
     none_out = refl;
   }
@@ -88,6 +91,7 @@ module _ {C : Type 0} (stands : C → PlainCaches → List (Entry Call Answer) �
         no_read_fault = takes.cause.2.counts ∙ going.no_read_fault;
         no_write_fault = answers.cause ∙ going.no_write_fault;
         stands_for = paused.stands;
+        sound = paused.sound;
         paused = paused.paused;
         none_out = paused.none_out;
       }
@@ -156,7 +160,7 @@ module _ {C : Type 0} (stands : C → PlainCaches → List (Entry Call Answer) �
   caused_answering ends.NoMemory x0 x2 y0 y1 y2 cause up held still writes = (still.counts, cause ∙ writes)
 
   pub answer_ended : {A : Type 0} (a b c : C) (s0 s1 s2 : State) (x0 x1 x2 : SourceState) (y0 y1 y2 : SinkState) (taken taken' : ℕ) (end : SessionEnd) → Going stands seat cfg a b s0 x0 x1 y0 y1 taken
-      → TakesPiece s0 s1 x1 x2 taken (Ok taken') → AnswersAll {A} stands seat b c s1 s2 y1 y2 (Err end) → Served stands seat cfg a c x0 x2 y0 y2 end
+      → TakesPiece s0 s1 x1 x2 taken (Ok taken') → AnswersAll {A = A} stands seat b c s1 s2 y1 y2 (Err end) → Served stands seat cfg a c x0 x2 y0 y2 end
   answer_ended a b c s0 s1 s2 x0 x1 x2 y0 y1 y2 taken taken' end going takes answers =
       let took = takes.continues going.input going.ran going.output going.counts going.stands_for in
       record {

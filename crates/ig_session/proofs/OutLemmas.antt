@@ -1,10 +1,9 @@
 -- The calls that are out, and what was given for the others.
 use Rattle.std.proofs.Common.{◌≡◌, ℕ, zero, suc, ◌+◌, ◌<◌, ◌≤◌, List, [], ◌∷◌, ◌++◌, map, length, Option, None, Some, refl, sym, ap, ◌∙◌, arith, append_assoc}
-use Rattle.std.specs.Prelude.{Bool, true, false, cond, not, slice_get}
+use Rattle.std.specs.Prelude.{Bool, true, false, cond, slice_get}
 use Rattle.std.specs.List.{cons_option}
 use Rattle.std.proofs.lemmas.Bool.{eq-eqb, ne_eqb}
 use Rattle.std.proofs.lemmas.List.{length-map, map-append}
-use Rattle.std.proofs.lemmas.List.Elements.{filter-append}
 use Rattle.ig_caches.specs.declared.call.Call.{Call}
 use Rattle.ig_deals.specs.Asks.{Asked}
 use Rattle.ig_deals.specs.Deals.{Got, Deal, call_for, calls}
@@ -98,10 +97,10 @@ others : (nth n : ℕ) (ds : List Deal) → ((k : ℕ) → n ≤ k → k < n + c
 others nth n [] never = tt
 others nth n (deal ∷ ds) never = others_next nth n deal (call_for deal.asked.request) ds never (λ m. others nth m ds)
 
-others_stay : (nth : ℕ) (out : List Awaited) → AreOthers nth out → without_nth out nth ≡ out
-others_stay nth [] are = refl
-others_stay nth (a ∷ out) are =
-    ap (λ (b : Bool). cond (not b) (a ∷ without_nth out nth) (without_nth out nth)) are.0 ∙ ap (λ (l : List Awaited). a ∷ l) (others_stay nth out are.1)
+others_left : (nth : ℕ) (out : List Awaited) (a : Awaited) (later : List Awaited) → AreOthers nth out → has_nth nth a ≡ true → without_nth (out ++ a ∷ later) nth ≡ out ++ later
+others_left nth [] a later are is = ap (λ (b : Bool). cond b later (a ∷ without_nth later nth)) is
+others_left nth (x ∷ out) a later are is =
+    ap (λ (b : Bool). cond b (out ++ a ∷ later) (x ∷ without_nth (out ++ a ∷ later) nth)) are.0 ∙ ap (λ (l : List Awaited). x ∷ l) (others_left nth out a later are.1 is)
 
 others_passed : (nth : ℕ) (out later : List Awaited) → AreOthers nth out → awaited_at (out ++ later) nth ≡ awaited_at later nth
 others_passed nth [] later are = refl
@@ -115,9 +114,6 @@ module _ (before after : List Deal) (a : Asked) (c : Call) (has_call : call_for 
 
   below : AreOthers nth (out_among 0 before)
   below = others nth 0 before (λ k at_least less same. let is : k ≡ calls_among before = same in omega (arith, less, is))
-
-  above : AreOthers nth (out_among (suc nth) after)
-  above = others nth (suc nth) after (λ k at_least less same. let from : suc (calls_among before) ≤ k = at_least in let is : k ≡ calls_among before = same in omega (arith, from, is))
 
   -- the calls that are out, whatever was given for this one
   pub out_with : (got : Option Got) → out_among 0 (before ++ record { asked = a; got = got } ∷ after) ≡ out_among 0 before ++ (out_next nth a got ++ out_among (suc nth) after)
@@ -138,12 +134,7 @@ module _ (before after : List Deal) (a : Asked) (c : Call) (has_call : call_for 
       → without_nth out nth ≡ out_among 0 (before ++ record { asked = a; got = Some got } ∷ after)
   others_out out got is =
       ap (λ (l : List Awaited). without_nth l nth) (is ∙ out_with None)
-      ∙ filter-append (λ (x : Awaited). not (has_nth nth x)) (out_among 0 before) (awaited_of nth a ∷ out_among (suc nth) after)
-      ∙ ap (λ (l : List Awaited). l ++ without_nth (awaited_of nth a ∷ out_among (suc nth) after) nth) (others_stay nth (out_among 0 before) below)
-      ∙ ap (λ (l : List Awaited). out_among 0 before ++ l) (
-      ap (λ (b : Bool). cond (not b) (awaited_of nth a ∷ without_nth (out_among (suc nth) after) nth) (without_nth (out_among (suc nth) after) nth)) itself
-      ∙ others_stay nth (out_among (suc nth) after) above
-      )
+      ∙ others_left nth (out_among 0 before) (awaited_of nth a) (out_among (suc nth) after) below itself
       ∙ sym (out_with (Some got))
 
 -- ---- the request of a call that is out

@@ -180,21 +180,21 @@ module _ {C : Type 0} (stands : C → PlainCaches → List (Entry Call Answer) �
       }
 
   -- no whole frame is left
-  pub since_paused : {A : Type 0} (a b : C) (first s : State) (s0 s1 : SinkState) (done : A) → Since stands seat a b first s s0 s1 → IsPaused s → s.out ≡ [] → AnswersAll stands seat a b first s s0 s1 (Ok done)
-  since_paused a b first s s0 s1 done since paused none = record {
+  pub since_paused : {A : Type 0} (a b : C) (first s : State) (s0 s1 : SinkState) (done : A) → Since stands seat a b first s s0 s1 → IsSound s → IsPaused s → s.out ≡ [] → AnswersAll stands seat a b first s s0 s1 (Ok done)
+  since_paused a b first s s0 s1 done since sound paused none = record {
     ran = since.ran;
     out = since.out;
     keeps = since.keeps;
     gets = since.gets;
     cause = since.counts;
     cfg = since.cfg;
-    continues = λ input results output within stood. record { stands = since.continues input results output stood; paused = paused; none_out = none };
+    continues = λ input results output within stood. record { stands = since.continues input results output stood; sound = sound; paused = paused; none_out = none };
   }
 
   -- the session ended while it answered, by another cause than a write fault
   pub since_ended : {A : Type 0} (a b : C) (first s : State) (s0 s1 : SinkState) (end : SessionEnd) → Since stands seat a b first s s0 s1 → (s1.faults ≡ s0.faults → EndsAnswering end s0 s1)
       → ((input : List ℕ) (results : List Ran) (output : List ℕ) → length input ≤ most_session_bytes → Stands s input results [] output → Runs s.cfg session_manner input output results end)
-      → AnswersAll {A} stands seat a b first s s0 s1 (Err end)
+      → AnswersAll {A = A} stands seat a b first s s0 s1 (Err end)
   since_ended {A} a b first s s0 s1 end since cause runs = record {
     ran = since.ran;
     out = since.out;
@@ -207,7 +207,7 @@ module _ {C : Type 0} (stands : C → PlainCaches → List (Entry Call Answer) �
 
   -- the sink failed
   pub since_fault : {A : Type 0} (a b : C) (first old new : State) (s0 s1 s2 : SinkState) → Since stands seat a b first old s0 s1 → new.cfg ≡ old.cfg → SentFirst (bytes_left old.waiting) s1 s2
-      → AnswersAll {A} stands seat a b first new s0 s2 (Err ends.WriteFault)
+      → AnswersAll {A = A} stands seat a b first new s0 s2 (Err ends.WriteFault)
   since_fault {A} a b first old new s0 s1 s2 since same sent = record {
     ran = since.ran;
     out = since.out ++ sent.prefix;

@@ -2,6 +2,8 @@
 use Rattle.std.specs.Io.KnownBytes.{Consumes}
 use Rattle.std.proofs.Common.{◌≡◌, ℕ, ◌+◌, ◌<◌, ◌≤◌, List, [], ◌∷◌, ◌++◌, length, Option, None, Some, Ok, Err, refl, sym, ap, ◌∙◌, subst, arith, append-nil, length-append}
 use Rattle.ig_base.specs.Numbers.{AreBytes}
+use Rattle.std.specs.List.{flat_map}
+use Rattle.ig_base.specs.Frames.{max_body, Frame}
 use Rattle.ig_link.specs.States.{SourceState, SourceAdvances}
 use Rattle.ig_link.specs.ReadsAs.{ReadEnd, ReadFault}
 use Rattle.ig_link.proofs.StateLemmas.{SourceAdvances-nothing}
@@ -14,11 +16,14 @@ use Rattle.ig_deals.specs.declared.end.SessionEnd.TheVariants as ends
 use Rattle.ig_session.specs.declared.phase.Phase.{Phase}
 use Rattle.ig_session.specs.declared.phase.Phase.TheVariants.{BeforeHello, Open, Refused, OutOfMemory}
 use Rattle.ig_session.specs.States.{State}
-use Rattle.ig_session.specs.Comings.{Coming, Misses, coming, IsPaused}
+use Rattle.ig_caches.specs.declared.call.Call.{Call}
+use Rattle.ig_session.specs.Comings.{Coming, Misses, coming, least_in, IsPaused}
 use Rattle.ig_session.specs.Soundness.{IsSound}
 use Rattle.ig_session.specs.Steps.{fed, end_after, end_at}
 use Rattle.ig_session.specs.StandsFor.{Stands}
 use Rattle.ig_session.specs.Serving.{HasEnded, IsStillOpen, EndsTaking, TakesPiece}
+use Rattle.ig_session.proofs.ComingLemmas.{MissesIn, misses}
+use Rattle.ig_session.proofs.FrontLemmas.{incomplete_few}
 use Rattle.ig_session.proofs.StandLemmas.{fed_stands}
 use Rattle.ig_session.proofs.EndLemmas.{fault_is_end, pause_is_end}
 
@@ -90,3 +95,16 @@ takes_none s source source' bytes taken gives open_still within are = record {
   continues = λ input ran output counts stood.
       (fault_is_end (fed s bytes) (input ++ bytes) ran output (omega (arith, length-append input bytes, counts, within)) (fed_stands s input bytes ran [] output are stood)).1;
 }
+
+-- a session that waits for input holds less than the longest frame
+pub paused_few : (s : State) → IsSound s → IsPaused s → length s.stream.rest < 4 + max_body
+paused_few s sound paused =
+    let at : MissesIn s s.phase paused.0 = misses s paused.0 paused.1 in
+    let few : length s.stream.rest < 4 + s.stream.limit = incomplete_few (least_in s.phase) s.stream.limit paused.0 s.stream.rest at.part in omega (arith, few, sound.limit)
+
+-- all that was fed was read, or is held
+pub all_fed : (s : State) (input : List ℕ) (ran : List Ran) (out : List Call) (output : List ℕ) → length input ≤ most_session_bytes → Stands s input ran out output
+    → s.stream.place + length s.stream.rest ≡ length input
+all_fed s input ran out output within stood =
+    let whole : input ≡ flat_map Frame stood.bodies ++ s.stream.rest = stood.read.begins.whole in
+    omega (arith, within, ap length whole, length-append (flat_map Frame stood.bodies) s.stream.rest, stood.read.place)

@@ -1,5 +1,6 @@
 -- Calls that are out, and what is remembered of their requests: all that their replies depend on.
-use Rattle.std.specs.Prelude.{◌==◌, ℕ, Bool, true, false, not, List, filter, find, Option, Some, Result, Ok, Err}
+use Rattle.std.specs.Prelude.{◌==◌, ℕ, Bool, true, false, List, [], ◌∷◌, find, Option, Some, Result, Ok, Err, if◌then◌else◌}
+use Rattle.std.specs.List.{position}
 use Rattle.ig_caches.specs.declared.call.Call.TheVariants.{Names, Affinity}
 use Rattle.ig_caches.specs.declared.request.Request.{Request}
 use Rattle.ig_caches.specs.declared.request.Request.TheVariants as request
@@ -45,9 +46,14 @@ has_nth nth awaited = awaited.nth == nth
 abbrev pub awaited_at : List Awaited → ℕ → Option Awaited
 awaited_at out nth = find (has_nth nth) out
 
--- the other calls that are out
+-- its place among them
+unfoldable pub place_of_nth : List Awaited → ℕ → Option ℕ
+place_of_nth out nth = position (has_nth nth) out
+
+-- the other calls that are out: no two have one number
 abbrev pub without_nth : List Awaited → ℕ → List Awaited
-without_nth out nth = filter (λ a. not (has_nth nth a)) out
+without_nth [] nth = []
+without_nth (awaited ∷ out) nth = if has_nth nth awaited then out else awaited ∷ without_nth out nth
 
 abbrev pub is_scan : Awaits → Bool
 is_scan (await.Scan cache page) = true

@@ -16,6 +16,7 @@ use Rattle.ig_replies.specs.Showing.{waiting_none, bytes_left}
 use Rattle.ig_session.specs.Histories.{StandsOn}
 use Rattle.ig_session.specs.States.{State}
 use Rattle.ig_session.specs.Comings.{IsPaused}
+use Rattle.ig_session.specs.Soundness.{IsSound}
 use Rattle.ig_session.specs.Steps.{answered, IsSpent}
 use Rattle.ig_session.specs.StandsFor.{Stands}
 
@@ -44,6 +45,7 @@ pub record WriteHasFailed (old new : SinkState) : Type 0 where
 -- a session that has answered all whole frames
 pub record Pauses (state : State) (input : List ℕ) (ran : List Ran) (output : List ℕ) : Type 0 where
   pub stands : Stands state input ran [] output
+  pub sound : IsSound state
   pub paused : IsPaused state
   pub none_out : state.out ≡ []
 
@@ -183,5 +185,6 @@ pub record Going {C : Type 0} (stands : C → PlainCaches → List (Entry Call A
   pub no_read_fault : source'.faults ≡ source.faults
   pub no_write_fault : sink'.faults ≡ sink.faults
   pub stands_for : Stands state input ran [] output
+  pub sound : IsSound state
   pub paused : IsPaused state
   pub none_out : state.out ≡ []

@@ -1,6 +1,5 @@
 -- What holds of every session, whatever it was fed.
-use Rattle.std.specs.Prelude.{◌≡◌, ℕ, ◌+◌, ◌<◌, ◌≤◌, ◌^◌, List, [], length}
-use Rattle.std.specs.List.{AllByRecursion}
+use Rattle.std.specs.Prelude.{◌≡◌, ℕ, ◌+◌, ◌≤◌, ◌^◌, List, [], length}
 use Rattle.ig_base.specs.Frames.{max_body}
 use Rattle.ig_deals.specs.declared.cfg.SessionCfg.{SessionCfg}
 use Rattle.ig_deals.specs.Laws.{IsDesk}
@@ -26,10 +25,8 @@ IsSoundPhase (Open terms) cfg out = AreTerms terms × (terms.cfg ≡ cfg)
 IsSoundPhase (Refused fault) cfg out = out ≡ []
 IsSoundPhase OutOfMemory cfg out = Unit {0}
 
-abbrev pub IsNumbered : ℕ → Awaited → Type 0
-IsNumbered handed awaited = awaited.nth < handed
-
--- Each request has bytes, so there are fewer cursors and calls than bytes that were read.
+-- Each request has bytes, so there are fewer cursors and calls than bytes that were read. Where nothing waits,
+-- nothing of it is gone.
 pub record IsSound (s : State) : Type 0 where
   pub cfg : IsCfg s.cfg
   pub limit : s.stream.limit ≡ max_body
@@ -38,4 +35,4 @@ pub record IsSound (s : State) : Type 0 where
   pub desk : IsDesk s.desk
   pub cursors : s.desk.next + length s.out ≤ s.stream.place + 1
   pub calls : s.handed ≤ s.stream.place
-  pub numbered : AllByRecursion (IsNumbered s.handed) s.out
+  pub idle : s.waiting.frames ≡ [] → s.waiting.gone ≡ 0

@@ -1,14 +1,15 @@
 //! A session of which several calls may be out, and are answered in any order.
 
-ghost use Rattle.std.specs.Prelude.{◌≡◌, ◌≢◌, ◌≤◌, [], IfOk, OnOk, OnErr, IsSome};
+ghost use Rattle.std.specs.Prelude.{◌≡◌, ◌≢◌, ◌≤◌, true, false, [], IfOk, OnOk, OnErr, IsSome};
 ghost use Rattle.std.specs.List.{list_any};
 ghost use Rattle.ig_session.specs.declared.awaited.Awaited.{Awaited as a_call_out};
 ghost use Rattle.ig_session.specs.declared.phase.Phase.TheVariants.{OutOfMemory};
 ghost use Rattle.ig_session.specs.declared.step.Ahead.TheVariants.{Stop, Wait};
 ghost use Rattle.ig_deals.specs.declared.end.SessionEnd.TheVariants as ends;
-ghost use Rattle.ig_session.specs.Awaiting.{is_scan, awaited_at, without_nth};
+ghost use Rattle.ig_session.specs.Awaiting.{is_scan, awaited_at, place_of_nth, without_nth};
 ghost use Rattle.ig_session.specs.Comings.{coming};
 ghost use Rattle.ig_session.specs.Requests.{coming_said, IsServable, HandsRunnableAhead};
+ghost use Rattle.ig_session.specs.Soundness.{IsSound};
 ghost use Rattle.ig_session.specs.Steps.{given, IsSpent, Lacks};
 ghost use Rattle.ig_session.specs.StepsAhead.{waits_for_all, is_full, stop_or_wait, step_on, step_ahead, answered_nth};
 
@@ -42,6 +43,14 @@ fn waits_for_all(next: &Coming) -> bool
     }
 }
 
+/// The index of the call with this number.
+#[tactic(auto, unfolding(crate::specs::Awaiting::place_of_nth))]
+fn index_of(out: &[Awaited], nth: u64) -> Option<usize>
+    ensures { result ≡ place_of_nth out.now nth }
+{
+    out.iter().position(|awaited| awaited.nth == nth)
+}
+
 impl Session {
     /// What the session does next, where up to `limit` calls may be out: from 1 to 16, the same in each
     /// call. It answers as [`Session::next_request`] does, except for one answer:
@@ -59,15 +68,42 @@ impl Session {
         ensures ok { IfOk result (λ step. (step, self.new) ≡ step_ahead limit self.old) }
         ensures runnable { IfOk result HandsRunnableAhead }
         ensures err { OnErr result (Lacks self.old self.new) }
+        ensures sound { IsSound self.old }
     {
-        if self.outbox.is_empty() && self.is_full(limit) {
+        if self.must_wait_for_one(limit) {
             return Ok(self.stop_or_wait());
         }
         let next = self.look()?;
-        if !self.out.is_empty() && waits_for_all(&next) {
+        if self.must_wait_for_all(&next) {
             return Ok(Ahead::Wait);
         }
         self.step_on(next)
+    }
+
+    /// Whether no reply waits, and no call may be handed out besides those that are out.
+    fn must_wait_for_one(&self, limit: u32) -> bool
+        ensures yes { result ≡ true
+            → (self.now.waiting.frames ≡ []) × (is_full limit self.now.out ≡ true) }
+        ensures no { result ≡ false
+            → self.now.waiting.frames ≡ [] → is_full limit self.now.out ≡ false }
+    {
+        if !self.outbox.is_empty() {
+            return false;
+        }
+        self.is_full(limit)
+    }
+
+    /// Whether some call is out, and what comes next waits for the answers to all of them.
+    fn must_wait_for_all(&self, next: &Coming) -> bool
+        ensures yes { result ≡ true
+            → (self.now.out ≢ []) × (waits_for_all (coming_said next.now) ≡ true) }
+        ensures no { result ≡ false
+            → self.now.out ≢ [] → waits_for_all (coming_said next.now) ≡ false }
+    {
+        if self.out.is_empty() {
+            return false;
+        }
+        waits_for_all(next)
     }
 
     /// Whether no call may be handed out besides those that are out.
@@ -135,7 +171,7 @@ impl Session {
         ensures ok { OnOk result (self.new ≡ answered_nth self.old nth (given got)) }
         ensures err { OnErr result (IsSpent self.old self.new (without_nth self.old.out nth)) }
     {
-        match self.out.iter().position(|awaited| awaited.nth == nth) {
+        match index_of(&self.out, nth) {
             Some(index) => {
                 let awaited = self.out.remove(index);
                 self.settle(awaited, got)

@@ -5,6 +5,7 @@ ghost use Rattle.ig_base.specs.declared.memory.NoMemory.{NoMemory};
 ghost use Rattle.ig_deals.specs.Deals.{Had};
 ghost use Rattle.ig_deals.specs.Turns.{turn};
 ghost use Rattle.ig_replies.specs.RunTerms.{terms_of, AreTerms};
+ghost use Rattle.ig_replies.specs.Showing.{showing, after_push};
 ghost use Rattle.ig_replies.specs.Turned.{IsTurned, HasNumbers};
 ghost use Rattle.ig_session.specs.Awaiting.{deal_of};
 ghost use Rattle.ig_session.specs.Steps.{given, settled_in, IsSpent, CanDraw};
@@ -58,13 +59,25 @@ impl Session {
         let Phase::Open(terms) = self.phase else {
             return Ok(());
         };
-        let frame = match got {
-            Err(_) => lacks_memory(&terms, awaited.id),
+        match got {
+            Err(_) => {
+                let frame = lacks_memory(&terms, awaited.id);
+                self.show(frame)
+            }
             Ok(given) => match reply_to(self.alloc, &terms, &mut self.desk, awaited, given) {
-                Ok(frame) => frame,
-                Err(_) => return self.run_out(),
+                Ok(frame) => self.show(frame),
+                Err(_) => self.run_out(),
             },
-        };
+        }
+    }
+
+    /// Adds a reply after the others. On an error the session has ended.
+    pub(crate) fn show(&mut self, frame: ReplyFrame) -> Result<(), NoMemory>
+        requires { frame ≡ showing frame.frame }
+        ensures ok { OnOk result (self.new
+            ≡ record self.old { waiting = after_push self.old.waiting frame.frame }) }
+        ensures err { OnErr result (IsSpent self.old self.new self.old.out) }
+    {
         match self.outbox.push(frame) {
             Ok(()) => Ok(()),
             Err(_) => self.run_out(),

@@ -65,7 +65,7 @@ impl Session {
     {
         let nth = self.handed;
         self.out.push(Awaited { nth, id, awaits })?;
-        self.pass();
+        self.frames.pass(self.phase.least());
         self.handed += 1;
         Ok(Some(call))
     }
@@ -105,20 +105,15 @@ impl Session {
         self.say(frame)
     }
 
-    /// Adds the reply to the request that comes next, where nothing waits, and passes the request. On an
-    /// error the session has ended.
+    /// Adds the reply to the request that comes next, and passes the request. On an error the session has
+    /// ended.
     fn say(&mut self, frame: ReplyFrame) -> Result<Option<Call>, NoMemory>
-        requires comes { ComesAny self.old }
-        requires fresh { frame ≡ showing frame.frame }
+        requires { frame ≡ showing frame.frame }
         ensures ok { IfOk result (λ call. (call ≡ None) × (self.new ≡ said frame.frame self.old)) }
         ensures err { OnErr result (IsSpent self.old self.new self.old.out) }
     {
-        match self.outbox.push(frame) {
-            Ok(()) => {
-                self.pass();
-                Ok(None)
-            }
-            Err(_) => self.run_out(),
-        }
+        self.show(frame)?;
+        self.pass();
+        Ok(None)
     }
 }

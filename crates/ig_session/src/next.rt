@@ -2,6 +2,7 @@
 
 ghost use Rattle.std.specs.Prelude.{◌≡◌, [], length, IfOk, OnOk, OnErr};
 ghost use Rattle.ig_session.specs.Requests.{HandsRunnable};
+ghost use Rattle.ig_session.specs.Soundness.{IsSound};
 ghost use Rattle.ig_session.specs.Steps.{next_step, given, answered, IsSpent, Lacks};
 
 use crate::coming::Coming;
@@ -28,6 +29,7 @@ impl Session {
         ensures ok { IfOk result (λ step. (step, self.new) ≡ next_step self.old) }
         ensures runnable { IfOk result HandsRunnable }
         ensures err { OnErr result (Lacks self.old self.new) }
+        ensures sound { IsSound self.old }
     {
         match self.look()? {
             Coming::Replies => Ok(Step::Out),

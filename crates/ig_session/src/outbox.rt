@@ -34,10 +34,11 @@ impl Outbox {
     pub(crate) fn new(alloc: Global) -> Result<Outbox, NoMemory>
         ensures { IfOk result (λ outbox. outbox ≡ waiting_none) }
     {
+        let replies = Queue::new(alloc)?;
         Ok(Outbox {
             hello: Octets::empty(alloc),
             gone: 0,
-            replies: Queue::new(alloc)?,
+            replies,
         })
     }
 
@@ -76,7 +77,7 @@ impl Outbox {
 
     /// Adds the reply to the hello, where nothing waits. Takes no memory.
     pub(crate) fn greet(&mut self, frame: Octets)
-        requires none { self.old ≡ waiting_none }
+        requires none { self.old.frames ≡ [] }
         requires some { 0 < length frame }
         requires short { length frame ≤ piece_bytes }
         ensures { self.new ≡ after_push self.old frame }

@@ -1,11 +1,12 @@
 //! Reads the next frame of a session.
 
-ghost use Rattle.std.specs.Prelude.{◌≡◌, [], false, IfOk, OnOk, OnErr};
+ghost use Rattle.std.specs.Prelude.{◌≡◌, ◌<◌, ◌≤◌, ◌^◌, [], false, length, IfOk, OnOk, OnErr};
 ghost use Rattle.ig_wire.specs.Versions.{has_flags};
 ghost use Rattle.ig_deals.specs.declared.manner.Manner.TheVariants.{Never};
 ghost use Rattle.ig_session.specs.declared.phase.Phase.TheVariants.{BeforeHello, Open};
 ghost use Rattle.ig_session.specs.Requests.{coming_said, IsServable, ComesHello};
-ghost use Rattle.ig_session.specs.Comings.{coming};
+ghost use Rattle.ig_deals.specs.Asks.{asked_in};
+ghost use Rattle.ig_session.specs.Comings.{Asks, coming};
 ghost use Rattle.ig_session.specs.Steps.{passed, opened, refused};
 
 use crate::coming::Coming;
@@ -18,6 +19,22 @@ use ig_deals::{Manner, SessionEnd};
 use ig_frame::Next;
 use ig_replies::Terms;
 use ig_wire::{AskFault, HelloFault, Version, read_hello};
+use std::alloc::Global;
+
+/// What the body of a request asks under these terms.
+fn asked_by(alloc: Global, terms: Terms, body: &[u8]) -> Result<Coming, NoMemory>
+    requires long { 10 ≤ length body.now }
+    requires short { length body.now < 2 ^ 31 }
+    ensures asks { IfOk result (λ next. coming_said next
+        ≡ Asks terms (asked_in terms.version body.now)) }
+    ensures servable { IfOk result IsServable }
+{
+    let (id, asked) = read_request(alloc, terms.version, body);
+    match asked {
+        Err(AskFault::NoMemory) => Err(NoMemory),
+        asked => Ok(Coming::Asks(terms, id, asked)),
+    }
+}
 
 impl Session {
     /// What comes next. A whole frame is read where it stands, and not yet passed.
@@ -57,17 +74,13 @@ impl Session {
         ensures coming { IfOk result (λ next. coming_said next ≡ coming self.now) }
         ensures servable { IfOk result IsServable }
     {
-        let body = match self.frames.look(self.phase.least()) {
-            Next::More { missing } => return Ok(Coming::Misses(missing)),
-            Next::Bad { place, length } => {
-                return Ok(Coming::Stops(SessionEnd::BadFrame { place, length }));
-            }
-            Next::Frame { body, .. } => body,
-        };
-        let (id, asked) = read_request(self.alloc, terms.version, body);
-        match asked {
-            Err(AskFault::NoMemory) => Err(NoMemory),
-            asked => Ok(Coming::Asks(terms, id, asked)),
+        match self.frames.look(self.phase.least()) {
+            Next::More { missing } => Ok(Coming::Misses(missing)),
+            Next::Bad { place, length } => Ok(Coming::Stops(SessionEnd::BadFrame {
+                place,
+                length,
+            })),
+            Next::Frame { body, .. } => asked_by(self.alloc, terms, body),
         }
     }
 

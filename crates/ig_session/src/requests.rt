@@ -1,8 +1,10 @@
 //! Reads requests: the operations of all crates in one table.
 
-ghost use Rattle.std.specs.Prelude.{◌≡◌, ◌≤◌, ◌<◌, ◌^◌, length, Option, Some, IfOk};
+ghost use Rattle.std.specs.Prelude.{◌≡◌, ◌≤◌, ◌<◌, ◌^◌, length, is_some, Option, Some, IfOk};
 ghost use Rattle.std.specs.Option.{option_and_then};
 ghost use Rattle.ig_wire.specs.Operations.{operation_at};
+ghost use Rattle.ig_wire.specs.declared.operation.Operation.TheVariants.{PartitionMaps};
+ghost use Rattle.ig_meta.specs.Requests.{ask_of as types_ask};
 ghost use Rattle.ig_caches.specs.declared.request.Request.{Request as a_request};
 ghost use Rattle.ig_fields.specs.AsksRightly.{asked};
 ghost use Rattle.ig_fields.specs.AskAnswers.{AnswersAs};
@@ -49,19 +51,38 @@ fn read_fields(
     ensures asked { AnswersAs (asked (ask_of operation) body.now) result }
     ensures served { IfOk result CanServe }
 {
-    match operation {
-        Operation::PartitionMaps => {
-            let caches = ig_parts::read_parts_ask(alloc, body)?;
-            Ok(Request::Run(Call::Affinity { caches }))
-        }
-        Operation::CacheNames
-        | Operation::Create
-        | Operation::GetOrCreate
-        | Operation::Destroy
-        | Operation::GetTypeName
-        | Operation::RegisterTypeName
-        | Operation::GetType
-        | Operation::PutType => ig_meta::read_fields(alloc, code, body),
-        _ => ig_ops::read_fields(alloc, code, body),
+    if let Operation::PartitionMaps = operation {
+        return read_parts(alloc, body);
     }
+    if is_of_types(operation) {
+        return ig_meta::read_fields(alloc, code, body);
+    }
+    ig_ops::read_fields(alloc, code, body)
+}
+
+/// What a request for partition maps asks.
+fn read_parts(alloc: Global, body: &[u8]) -> Result<Request, AskFault>
+    requires { 10 ≤ length body.now }
+    ensures asked { AnswersAs (asked (ask_of PartitionMaps) body.now) result }
+    ensures served { IfOk result CanServe }
+{
+    let caches = ig_parts::read_parts_ask(alloc, body)?;
+    Ok(Request::Run(Call::Affinity { caches }))
+}
+
+/// Whether an operation is on caches as wholes or on types of values.
+fn is_of_types(operation: Operation) -> bool
+    ensures { result ≡ is_some (types_ask operation) }
+{
+    matches!(
+        operation,
+        Operation::CacheNames
+            | Operation::Create
+            | Operation::GetOrCreate
+            | Operation::Destroy
+            | Operation::GetTypeName
+            | Operation::RegisterTypeName
+            | Operation::GetType
+            | Operation::PutType
+    )
 }

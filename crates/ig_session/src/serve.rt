@@ -5,6 +5,7 @@ ghost use Rattle.std.specs.Prelude.{◌≡◌, ◌<◌, ◌≤◌, ◌+◌, [], 
 ghost use Rattle.ig_wire.specs.Limits.{most_session_bytes, piece_bytes};
 ghost use Rattle.ig_session.specs.Cfg.{IsCfg};
 ghost use Rattle.ig_session.specs.Comings.{IsPaused};
+ghost use Rattle.ig_session.specs.Soundness.{IsSound};
 ghost use Rattle.ig_session.specs.Serving.{TakesPiece, AnswersAll, SendsWaiting, GivesAnswer, Served};
 ghost use Rattle.ig_caches.specs.IsRunnable.{IsRunnable};
 ghost use Rattle.ig_deals.specs.Deals.{Got as a_got, entry_of};
@@ -27,6 +28,7 @@ fn take_piece<S: Source>(
     buf: &mut [u8],
     taken: u64,
 ) -> Result<u64, SessionEnd>
+    requires sound { IsSound session.old }
     requires paused { IsPaused session.old }
     requires none { session.old.out ≡ [] }
     requires room { length buf.old ≡ piece_bytes }
@@ -55,13 +57,13 @@ fn send_waiting<K: Sink>(session: &mut Session, sink: &mut K) -> Result<(), Sess
     ensures sends { SendsWaiting session.old session.new (K.sink sink.old) (K.sink sink.new) result }
     ensures beside { K.source_beside sink.new ≡ K.source_beside sink.old }
 {
-    while !session.waiting().is_empty() {
+    'pieces: while !session.waiting().is_empty() {
         let waiting = session.waiting();
         let count = waiting.len();
-        if send_all(sink, waiting).is_err() {
-            return Err(SessionEnd::WriteFault);
+        match send_all(sink, waiting) {
+            Ok(()) => session.gone(count),
+            Err(_) => return Err(SessionEnd::WriteFault),
         }
-        session.gone(count);
     }
     Ok(())
 }

@@ -39,13 +39,13 @@ pub struct Session {
 
 impl Model for Session {
     ghost use Rattle.std.specs.Coded.{codes};
-    ghost use Rattle.ig_deals.specs.contracts.desk.Desk as desk;
+    ghost use Rattle.ig_value.specs.contracts.value.Value as value;
     ghost use Rattle.ig_session.specs.States.{State, state_of};
     ghost use Rattle.ig_session.specs.Soundness.{IsSound};
 
     ghost Value = { State };
 
-    ghost coded = { Prim.hlevel (codes, desk.the_row.coded) };
+    ghost coded = { Prim.hlevel (codes, value.the_row.coded) };
 
     ghost view = { λ s. state_of s.cfg s.frames s.phase s.desk s.out.items s.handed s.outbox };
 
@@ -54,13 +54,14 @@ impl Model for Session {
 }
 
 impl Session {
-    ghost use Rattle.std.specs.Prelude.{◌≡◌, ◌↔◌, ◌≤◌, ◌+◌, [], length, IfOk, OnOk, OnErr};
+    ghost use Rattle.std.specs.Prelude.{◌≡◌, ◌↔◌, ℕ, ◌≤◌, ◌+◌, [], length, IfOk, OnOk, OnErr};
     ghost use Rattle.ig_base.specs.Numbers.{AreBytes};
-    ghost use Rattle.ig_replies.specs.Showing.{piece_shown};
+    ghost use Rattle.ig_replies.specs.Showing.{waiting_none, piece_shown};
     ghost use Rattle.ig_session.specs.Cfg.{IsCfg};
     ghost use Rattle.ig_session.specs.States.{new_state};
     ghost use Rattle.ig_session.specs.Soundness.{most_fed, most_held};
-    ghost use Rattle.ig_session.specs.Comings.{coming, IsPaused};
+    ghost use Rattle.ig_deals.specs.declared.end.SessionEnd.TheVariants.{Truncated};
+    ghost use Rattle.ig_session.specs.Comings.{Misses, coming, IsPaused};
     ghost use Rattle.ig_session.specs.Steps.{fed, written, end_at};
 
     /// A session that was fed nothing. It takes the room for pieces of replies, and for cursors.
@@ -68,15 +69,19 @@ impl Session {
         requires { IsCfg cfg }
         ensures { IfOk result (λ session. session ≡ new_state cfg) }
     {
+        let frames = Frames::new(alloc, MAX_FRAME);
+        let desk = Desk::new(alloc)?;
+        let out = Vec::new(alloc);
+        let outbox = Outbox::new(alloc)?;
         Ok(Session {
             alloc,
             cfg,
-            frames: Frames::new(alloc, MAX_FRAME),
+            frames,
             phase: Phase::BeforeHello,
-            desk: Desk::new(alloc)?,
-            out: Vec::new(alloc),
+            desk,
+            out,
             handed: 0,
-            outbox: Outbox::new(alloc)?,
+            outbox,
         })
     }
 
@@ -109,14 +114,23 @@ impl Session {
         ensures end { result ≡ end_at self.old (coming self.old) }
         ensures same { self.new ≡ self.old }
     {
-        if let Phase::Open(_) = self.phase {
-            if self.frames.held() == 0 {
-                return SessionEnd::Ended;
-            }
+        let Phase::Open(_) = self.phase else {
+            return self.truncated();
+        };
+        if self.frames.held() == 0 {
+            return SessionEnd::Ended;
         }
+        self.truncated()
+    }
+
+    /// How the session ends if the input ends inside a frame.
+    fn truncated(&self) -> SessionEnd
+        ensures { (missing : ℕ) → coming self.now ≡ Misses missing → result ≡ Truncated missing }
+    {
         match self.frames.look(self.phase.least()) {
             Next::More { missing } => SessionEnd::Truncated { missing },
-            _ => SessionEnd::Truncated { missing: 0 },
+            Next::Bad { .. } => SessionEnd::Truncated { missing: 0 },
+            Next::Frame { .. } => SessionEnd::Truncated { missing: 0 },
         }
     }
 
@@ -126,7 +140,7 @@ impl Session {
     /// none waits. Takes no memory.
     pub fn waiting(&self) -> &[u8]
         ensures shown { result.now ≡ piece_shown self.now.waiting }
-        ensures end { (result.now ≡ []) ↔ (self.now.waiting.frames ≡ []) }
+        ensures end { (result.now ≡ []) ↔ (self.now.waiting ≡ waiting_none) }
     {
         self.outbox.waiting()
     }

@@ -14,11 +14,11 @@ say-requires-in-None c = reason_short reason.NoResource
 pub returns-in-Some : goal.returns-in-Some
 returns-in-Some c =
     let found : cursor_at c.args.desk.now.cursors c.args.resource ≡ Some c.in-Some.cursor = sym c.take.ensures.taken ∙ c.in-Some.is in
-    subst (λ (o : Option Cursor). IsTurned (terms_of c.args.terms.now) (close_turn (terms_of c.args.terms.now) c.args.desk.now c.args.id c.args.resource o) c.say.result c.take.new.desk)
+    subst (λ (o : Option Cursor). IsTurned (terms_of c.args.terms.now) (close_turn (terms_of c.args.terms.now) c.args.desk.now c.args.id c.args.resource o) c.say.result c.take.new.self)
     (sym found) (record { frame_is = c.say.ensures; desk_is = c.take.ensures.left })
 
 pub returns-in-None : goal.returns-in-None
 returns-in-None c =
     let found : cursor_at c.args.desk.now.cursors c.args.resource ≡ None = sym c.take.ensures.taken ∙ c.in-None.is in
-    subst (λ (o : Option Cursor). IsTurned (terms_of c.args.terms.now) (close_turn (terms_of c.args.terms.now) c.args.desk.now c.args.id c.args.resource o) c.say-in-None.result c.take.new.desk)
-    (sym found) (record { frame_is = c.say-in-None.ensures; desk_is = none_taken c.args.desk.now c.take.new.desk c.args.resource found c.take.ensures.left })
+    subst (λ (o : Option Cursor). IsTurned (terms_of c.args.terms.now) (close_turn (terms_of c.args.terms.now) c.args.desk.now c.args.id c.args.resource o) c.say-in-None.result c.take.new.self)
+    (sym found) (record { frame_is = c.say-in-None.ensures; desk_is = none_taken c.args.desk.now c.take.new.self c.args.resource found c.take.ensures.left })

@@ -1,9 +1,9 @@
 use Rattle.std.proofs.Common.{◌≡◌, ℕ, ◌<◌, ◌≤◌, ◌-◌, List, [], length, drop, sym, ap, subst, ◌∙◌, arith}
 use Rattle.std.proofs.lemmas.Grind.{common_steps}
-use Rattle.std.proofs.lemmas.List.{length-drop}
+use Rattle.std.proofs.lemmas.List.{length-drop, nil_from_length}
 use Rattle.ig_replies.specs.Showing.{Waiting, piece_shown, after_gone}
 use Rattle.ig_replies.specs.Queues.{IsQueue, waiting_in}
-use Rattle.ig_replies.proofs.QueueLemmas.{pass_queue, pass_waiting, spent_queue, spent_waiting, shown_is_left, no_bytes}
+use Rattle.ig_replies.proofs.QueueLemmas.{pass_queue, pass_waiting, spent_queue, spent_waiting, shown_is_left}
 use Rattle.ig_replies.proofs.queue.Queue.gone.Goals as goal
 
 pub pass-requires : goal.pass-requires
@@ -28,7 +28,7 @@ returns-then-not-is_empty c =
     ∙ ap (λ (w : Waiting). after_gone w c.args.count) c.self.view_is
 
 pub go_on-requires-clause-empty : goal.go_on-requires-clause-empty
-go_on-requires-clause-empty c = no_bytes c.pass.new.self (grind (arith, common_steps))
+go_on-requires-clause-empty c = nil_from_length c.pass.new.self (grind (arith, common_steps))
 
 pub go_on-requires-clause-spent : goal.go_on-requires-clause-spent
 go_on-requires-clause-spent c = spent_queue c.self.inside.first c.self.inside.piece c.self.inside.later.items c.self.invariant
@@ -37,7 +37,7 @@ pub returns : goal.returns
 returns c =
     let le : c.args.count ≤ length (piece_shown (waiting_in c.self.inside.first c.self.inside.piece c.self.inside.later.items)) =
     subst (λ (w : Waiting). c.args.count ≤ length (piece_shown w)) (sym c.self.view_is) c.requires in
-    let none : drop c.args.count c.self.inside.piece ≡ [] = sym c.pass.ensures ∙ no_bytes c.pass.new.self (grind (arith, common_steps)) in
+    let none : drop c.args.count c.self.inside.piece ≡ [] = sym c.pass.ensures ∙ nil_from_length c.pass.new.self (grind (arith, common_steps)) in
     c.go_on.ensures.waiting
     ∙ spent_waiting c.self.inside.first c.self.inside.piece c.self.inside.later.items c.args.count c.self.invariant le none
     ∙ ap (λ (w : Waiting). after_gone w c.args.count) c.self.view_is

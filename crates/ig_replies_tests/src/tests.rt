@@ -1,8 +1,10 @@
-use super::*;
 use ig_base::{Items, NoMemory, Octets};
 use ig_caches::{Answer, Call, Outcome, Pair, Why};
 use ig_deals::{Desk, Manner, SessionCfg};
 use ig_encode::encode;
+use ig_replies::{
+    Queue, ReplyFrame, Terms, answer, answer_scan, close, lacks_memory, next_page, refuse,
+};
 use ig_value::Value;
 use ig_wire::{AskFault, Version};
 use std::alloc::Global;
@@ -238,22 +240,24 @@ fn holds(alloc: Global, version: Version, rows: &[Row], step: usize) -> Result<b
     }
 }
 
-/// The frame of a reply with a list of this many bytes, shown by steps.
-fn shows_bytes(alloc: Global, count: usize, step: usize) -> Result<Option<Octets>, NoMemory> {
+/// The frame of a reply with a list of this many bytes.
+fn frame_of_bytes(alloc: Global, count: usize) -> Result<ReplyFrame, NoMemory> {
     let mut bytes = Vec::new(alloc);
     bytes.resize(count, 5)?;
-    let terms = terms_at(Version::V1_0_0);
-    let mut desk = Desk::new(alloc)?;
-    let mut queue = Queue::new(alloc)?;
     let outcome = Outcome::Found(Value::Bytes(Items::new(bytes)));
-    let frame = answer(
+    answer(
         alloc,
-        &terms,
-        &mut desk,
+        &terms_at(Version::V1_0_0),
+        &mut Desk::new(alloc)?,
         1,
         &Call::Names,
         Answer { minor: 0, outcome },
-    )?;
+    )
+}
+
+/// The bytes of a frame, shown by steps.
+fn shows(alloc: Global, frame: ReplyFrame, step: usize) -> Result<Option<Octets>, NoMemory> {
+    let mut queue = Queue::new(alloc)?;
     queue.push(frame)?;
     shown(alloc, &mut queue, step)
 }
@@ -289,8 +293,8 @@ fn topologies_are_told_once(rt: HostRuntime) -> Result<(), Fail> {
 fn long_values_are_shown_in_pieces(rt: HostRuntime) -> Result<(), Fail> {
     let alloc = rt.alloc();
     for step in [65_536, 50_000, 4_099] {
-        let bytes = shows_bytes(alloc, 200_000, step)?;
-        let Some(bytes) = bytes else {
+        let frame = frame_of_bytes(alloc, 200_000)?;
+        let Some(bytes) = shows(alloc, frame, step)? else {
             assert!(rt; false);
             return Ok(());
         };
@@ -303,13 +307,11 @@ fn long_values_are_shown_in_pieces(rt: HostRuntime) -> Result<(), Fail> {
 fn replies_that_are_too_long_are_faults(rt: HostRuntime) -> Result<(), Fail> {
     let alloc = rt.alloc();
     let longest = 8_388_608 - 17;
-    for (count, is_whole) in [(longest, true), (longest + 1, false)] {
-        let Some(bytes) = shows_bytes(alloc, count, 65_536)? else {
-            assert!(rt; false);
-            return Ok(());
-        };
-        assert_eq!(rt; bytes.len() == longest + 21, is_whole);
-        assert_eq!(rt; bytes.as_slice() == &TOO_LONG[..], !is_whole);
-    }
+    assert_eq!(rt; frame_of_bytes(alloc, longest)?.len(), 8_388_612);
+    let Some(bytes) = shows(alloc, frame_of_bytes(alloc, longest + 1)?, 65_536)? else {
+        assert!(rt; false);
+        return Ok(());
+    };
+    assert_eq!(rt; bytes.as_slice(), &TOO_LONG[..]);
     Ok(())
 }

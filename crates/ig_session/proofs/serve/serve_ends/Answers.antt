@@ -1,0 +1,50 @@
+use Rattle.std.proofs.Common.{◌≡◌, ◌∙◌, ℕ, Ok, Err, refl, sym, subst, arith}
+use Rattle.ig_session.specs.States.{State}
+use Rattle.ig_session.specs.Serving.{AnswersAll, Going}
+use Rattle.ig_session.proofs.TakeLemmas.{all_fed}
+use Rattle.ig_session.proofs.LoopLemmas.{none_served, going_start, going_on, take_ended, answer_ended}
+use Rattle.ig_session.proofs.serve.serve_ends.Goals as goal
+
+pub returns-in_default-clause-served : goal.returns-in_default-clause-served
+returns-in_default-clause-served g c = none_served g.C.Caller.stands (g.C.Caller.seat c.args.caller.now) c.args.cfg.now c.args.caller.now (g.S.Source.source c.args.source.now) (g.K.Sink.sink c.args.sink.now)
+
+pub returns-in_default-new-clause-served : goal.returns-in_default-new-clause-served
+returns-in_default-new-clause-served g c = none_served g.C.Caller.stands (g.C.Caller.seat c.args.caller.now) c.args.cfg.now c.args.caller.now (g.S.Source.source c.args.source.now) (g.K.Sink.sink c.args.sink.now)
+
+pub pieces-init : goal.pieces-init
+pieces-init g c = record {
+  going = subst (λ (s : State). Going g.C.Caller.stands (g.C.Caller.seat c.args.caller.now) c.args.cfg.now c.args.caller.now c.args.caller.now s (g.S.Source.source c.args.source.now) (g.S.Source.source c.args.source.now) (g.K.Sink.sink c.args.sink.now) (g.K.Sink.sink c.args.sink.now) 0) (sym c.in-Ok-new.ensures)
+      (going_start g.C.Caller.stands (g.C.Caller.seat c.args.caller.now) c.args.cfg.now c.args.caller.now (g.S.Source.source c.args.source.now) (g.K.Sink.sink c.args.sink.now) c.requires);
+  seat = refl;
+  lent = refl;
+  kept = refl;
+  room = omega (arith, c.in-Ok.ensures.len);
+}
+
+pub take_piece-requires-clause-counts : goal.take_piece-requires-clause-counts
+take_piece-requires-clause-counts g c =
+    let going = c.pieces.invariant.going in
+    let all = all_fed c.pieces.session going.input going.ran _ going.output (omega (arith, going.counts, going.within)) going.stands_for in
+    omega (arith, all, going.counts)
+
+pub returns-in-Err-clause-served : goal.returns-in-Err-clause-served
+returns-in-Err-clause-served g c = take_ended g.C.Caller.stands (g.C.Caller.seat c.args.caller.now) c.args.cfg.now c.args.caller.now c.pieces.caller c.pieces.session c.take_piece.new.session (g.S.Source.source c.args.source.now) (g.S.Source.source c.pieces.source) (g.S.Source.source c.take_piece.new.source) (g.K.Sink.sink c.args.sink.now) (g.K.Sink.sink c.pieces.sink)
+    c.pieces.taken c.in-Err.end c.pieces.invariant.going c.in-Err.ensures.takes
+
+pub pieces-preserved : goal.pieces-preserved
+pieces-preserved g c =
+    let takes = c.in-Ok-take_piece.ensures.takes in
+    record {
+      going = going_on g.C.Caller.stands (g.C.Caller.seat c.args.caller.now) c.args.cfg.now c.args.caller.now c.pieces.caller c.answer_all.new.caller c.pieces.session c.take_piece.new.session c.answer_all.new.session (g.S.Source.source c.args.source.now) (g.S.Source.source c.pieces.source) (g.S.Source.source c.take_piece.new.source) (g.K.Sink.sink c.args.sink.now) (g.K.Sink.sink c.pieces.sink) (g.K.Sink.sink c.answer_all.new.sink)
+          c.pieces.taken c.in-Ok-take_piece.more tt c.pieces.invariant.going takes
+          (subst (λ (s : ℕ). AnswersAll g.C.Caller.stands s c.pieces.caller c.answer_all.new.caller c.take_piece.new.session c.answer_all.new.session (g.K.Sink.sink c.pieces.sink) (g.K.Sink.sink c.answer_all.new.sink) (Ok tt)) c.pieces.invariant.seat c.in_default-answer_all.ensures.answers);
+      seat = c.answer_all.ensures.seat ∙ c.pieces.invariant.seat;
+      lent = c.answer_all.ensures.lent ∙ c.pieces.invariant.lent;
+      kept = c.answer_all.ensures.kept ∙ c.pieces.invariant.kept;
+      room = c.pieces.invariant.room;
+    }
+
+pub returns-in-Err-answer_all-clause-served : goal.returns-in-Err-answer_all-clause-served
+returns-in-Err-answer_all-clause-served g c = answer_ended g.C.Caller.stands (g.C.Caller.seat c.args.caller.now) c.args.cfg.now c.args.caller.now c.pieces.caller c.answer_all.new.caller c.pieces.session c.take_piece.new.session c.answer_all.new.session (g.S.Source.source c.args.source.now) (g.S.Source.source c.pieces.source) (g.S.Source.source c.take_piece.new.source) (g.K.Sink.sink c.args.sink.now) (g.K.Sink.sink c.pieces.sink) (g.K.Sink.sink c.answer_all.new.sink)
+    c.pieces.taken c.in-Ok-take_piece.more c.in-Err-answer_all.end c.pieces.invariant.going c.in-Ok-take_piece.ensures.takes
+    (subst (λ (s : ℕ). AnswersAll g.C.Caller.stands s c.pieces.caller c.answer_all.new.caller c.take_piece.new.session c.answer_all.new.session (g.K.Sink.sink c.pieces.sink) (g.K.Sink.sink c.answer_all.new.sink) (Err c.in-Err-answer_all.end)) c.pieces.invariant.seat c.in-Err-answer_all.ensures.answers)
