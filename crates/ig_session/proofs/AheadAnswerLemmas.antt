@@ -19,12 +19,11 @@ use Rattle.ig_deals.specs.Desk.{Desk, fresh_desk}
 use Rattle.ig_deals.specs.Replies.{reply_frame}
 use Rattle.ig_deals.specs.Turns.{Terms, Turn, turn}
 use Rattle.ig_deals.specs.OutFrames.{desk_after}
-use Rattle.ig_deals.specs.Serves.{joined}
 use Rattle.ig_deals.specs.Laws.{IsApart}
 use Rattle.ig_deals.proofs.ReplyLemmas.{replies-append}
 use Rattle.ig_replies.specs.declared.terms.Terms.{Terms as HeldTerms}
 use Rattle.ig_replies.specs.RunTerms.{terms_of}
-use Rattle.ig_replies.specs.Showing.{Waiting, bytes_left}
+use Rattle.ig_replies.specs.Showing.{Waiting, after_push}
 use Rattle.ig_session.specs.declared.phase.Phase.{Phase}
 use Rattle.ig_session.specs.declared.phase.Phase.TheVariants.{BeforeHello, Open, Refused, OutOfMemory}
 use Rattle.ig_session.specs.declared.awaited.Awaited.{Awaited}
@@ -32,13 +31,14 @@ use Rattle.ig_session.specs.Awaiting.{awaited_of, deal_of, awaited_at, without_n
 use Rattle.ig_session.specs.States.{State}
 use Rattle.ig_session.specs.Steps.{settled_in, answered_at, IsSpent, Lacks}
 use Rattle.ig_session.specs.StepsAhead.{is_at_cursors, answered_nth}
+use Rattle.ig_session.specs.StandsFor.{ShowsSoFar}
 use Rattle.ig_session.specs.StandsAhead.{HandedAhead, given_so_far, dealt_ahead, out_among, is_due, IsDue, LooksAtCursors, IsOrder, AreScansAlone, HasEach, AreCounted, out_ahead, IsOpenAhead, IsInAhead, StandsAhead}
 use Rattle.ig_session.specs.LawsAhead.{with_got}
 use Rattle.ig_session.proofs.KeptLemmas.{kept_turn}
 use Rattle.ig_session.proofs.ApartLemmas.{apart_turn, desk_apart, crew_tells}
 use Rattle.ig_session.proofs.PlaceLemmas.{at_end, at_other, at_first, due_in, due_within, order_more, order_for, still_due}
 use Rattle.ig_session.proofs.OutLemmas.{calls_among, out_with, found_out, others_out, IsOut, is_out, deals_before, deals_after, number_is, dealt_out, dealt_given, handed_given, length_given}
-use Rattle.ig_session.proofs.AheadLemmas.{ahead_terms, frames_at, frame_there, frames_beside, frames_first, frame_last, one_more_shown, open_shown_more, same_shown}
+use Rattle.ig_session.proofs.AheadLemmas.{ahead_terms, frames_at, frame_there, frames_beside, frames_first, frame_last, one_more_shown, one_more_waits, open_shown_more, same_shown}
 use Rattle.ig_session.proofs.DueLemmas.{all_due, InFirst, Itself, InLater, beside}
 use Rattle.ig_session.proofs.StandsByLemmas.{counted_open, open_counted, few_missing, stands_by, open_in_ahead, in_open_ahead, each_open, open_each}
 use Rattle.ig_session.proofs.AheadStepLemmas.{none_given}
@@ -212,13 +212,14 @@ module _ (limit : ℕ) (s : State) (input : List ℕ) (ran : List HandedAhead) (
   others : without_nth s.out nth ≡ out_among 0 now
   others = subst (λ (n : ℕ). without_nth s.out n ≡ out_among 0 now) number (others_out first later there.it call there.has_call s.out got out_was)
 
-  kept_shown : output ++ bytes_left s.waiting ≡ joined (out_ahead s.cfg stood.bodies now order)
-  kept_shown = stood.shows ∙ ap (λ (l : List Deal). joined (out_ahead s.cfg stood.bodies l order)) was_dealt
-      ∙ ap joined (same_shown s.cfg stood.bodies was now order (given_frames first later there.it call there.has_call got s.cfg order alone order_was))
+  kept_shown : ShowsSoFar (out_ahead s.cfg stood.bodies now order) s.waiting output
+  kept_shown = subst (λ (l : List (List ℕ)). ShowsSoFar l s.waiting output)
+      (ap (λ (l : List Deal). out_ahead s.cfg stood.bodies l order) was_dealt
+      ∙ same_shown s.cfg stood.bodies was now order (given_frames first later there.it call there.has_call got s.cfg order alone order_was)) stood.shows
 
   -- whichever phase the session is in then, and whatever is shown
   given_stands : (new : State) (places : List ℕ) → new.stream ≡ s.stream → new.out ≡ without_nth s.out nth → new.handed ≡ s.handed → IsInAhead new.phase new.cfg new.desk stood.bodies now
-      → IsOrder now places → HasEach new.phase now places → AreCounted limit new.phase new.out now places → output ++ bytes_left new.waiting ≡ joined (out_ahead new.cfg stood.bodies now places) → StandsAhead limit new input (with_got ran nth got) places output
+      → IsOrder now places → HasEach new.phase now places → AreCounted limit new.phase new.out (length new.waiting.frames) now places → ShowsSoFar (out_ahead new.cfg stood.bodies now places) new.waiting output → StandsAhead limit new input (with_got ran nth got) places output
   given_stands new places stream out handed phase ordered each counted shows = stands_by limit new input (with_got ran nth got) places output stood.bodies now (record {
     read = subst (λ (t : Stream). HandedOut client t input stood.bodies) (sym stream) stood.read;
     are_bytes = subst (λ (t : Stream). AreBytes t.rest) (sym stream) stood.are_bytes;
@@ -234,14 +235,16 @@ module _ (limit : ℕ) (s : State) (input : List ℕ) (ran : List HandedAhead) (
     shows = shows;
   })
 
-  counted_was : AreCounted limit s.phase s.out was order
-  counted_was = subst (λ (l : List Deal). AreCounted limit s.phase s.out l order) was_dealt stood.counted
+  counted_was : AreCounted limit s.phase s.out (length s.waiting.frames) was order
+  counted_was = subst (λ (l : List Deal). AreCounted limit s.phase s.out (length s.waiting.frames) l order) was_dealt stood.counted
 
   as_long : length now ≡ length was
   as_long = omega (arith, length-append first (record { asked = there.it; got = None } ∷ later), length-append first (record { asked = there.it; got = Some got } ∷ later))
 
-  still_few : length now ≤ length order + limit
-  still_few = let before_it : length was ≤ length order + limit = few_missing limit s.phase s.out was order counted_was in omega (arith, as_long, before_it)
+  still_few : length now + length s.waiting.frames ≤ length order + limit
+  still_few =
+      let before_it : length was + length s.waiting.frames ≤ length order + limit = few_missing limit s.phase s.out (length s.waiting.frames) was order counted_was in
+      omega (arith, as_long, before_it)
 
   -- one call less is out
   one_fewer : length s.out ≡ suc (length (without_nth s.out nth))
@@ -252,8 +255,12 @@ module _ (limit : ℕ) (s : State) (input : List ℕ) (ran : List HandedAhead) (
       let others_are : length (without_nth s.out nth) ≡ length (front ++ back) = ap length (others ∙ out_with first later there.it call there.has_call (Some got)) in
       omega (arith, one, others_are, length-append front (awaited_of (calls_among first) there.it ∷ back), length-append front back)
 
-  one_counted : (length was ≡ length order + length s.out) × (length s.out ≤ limit) → (length now ≡ length (order ++ length first ∷ []) + length (without_nth s.out nth)) × (length (without_nth s.out nth) ≤ limit)
-  one_counted before_it = (omega (arith, before_it.0, as_long, one_fewer, length-append order (length first ∷ [])), omega (arith, before_it.1, one_fewer))
+  one_counted : (frame : List ℕ) → (length was ≡ length order + length s.out) × (length s.out + length s.waiting.frames ≤ limit)
+      → (length now ≡ length (order ++ length first ∷ []) + length (without_nth s.out nth)) × (length (without_nth s.out nth) + length (after_push s.waiting frame).frames ≤ limit)
+  one_counted frame before_it = (
+    omega (arith, before_it.0, as_long, one_fewer, length-append order (length first ∷ [])),
+    omega (arith, before_it.1, one_fewer, one_more_waits s.waiting frame),
+  )
 
   -- a reply that is lost: none is added
   pub lost_stands_ahead : (new : State) → IsSpent s new (without_nth s.out nth) → StandsAhead limit new input (with_got ran nth got) order output
@@ -261,8 +268,10 @@ module _ (limit : ℕ) (s : State) (input : List ℕ) (ran : List HandedAhead) (
       (subst (λ (p : Phase). IsInAhead p new.cfg new.desk stood.bodies now) (sym spent.phase) tt)
       (given_order first later there.it call there.has_call got order order_was)
       (subst (λ (p : Phase). HasEach p now order) (sym spent.phase) tt)
-      (subst (λ (p : Phase). AreCounted limit p new.out now order) (sym spent.phase) still_few)
-      (ap (λ (w : Waiting). output ++ bytes_left w) spent.waiting ∙ kept_shown ∙ ap (λ (c : SessionCfg). joined (out_ahead c stood.bodies now order)) (sym spent.cfg))
+      (subst (λ (p : Phase). AreCounted limit p new.out (length new.waiting.frames) now order) (sym spent.phase)
+      (subst (λ (w : Waiting). length now + length w.frames ≤ length order + limit) (sym spent.waiting) still_few))
+      (subst (λ (w : Waiting). ShowsSoFar (out_ahead new.cfg stood.bodies now order) w output) (sym spent.waiting)
+      (subst (λ (c : SessionCfg). ShowsSoFar (out_ahead c stood.bodies now order) s.waiting output) (sym spent.cfg) kept_shown))
 
   -- what the session is after the answer
   abbrev left : State
@@ -303,7 +312,7 @@ module _ (limit : ℕ) (s : State) (input : List ℕ) (ran : List HandedAhead) (
             }))
             (given_next first later there.it call there.has_call got order alone order_was each)
             (open_each s.phase terms now (order ++ length first ∷ []) e (given_each first later there.it call there.has_call got order each))
-            (open_counted limit s.phase terms left.out now (order ++ length first ∷ []) e (one_counted (counted_open limit s.phase terms s.out was order e counted_was)))
+            (open_counted limit s.phase terms left.out (length (after_push s.waiting frame).frames) now (order ++ length first ∷ []) e (one_counted frame (counted_open limit s.phase terms s.out (length s.waiting.frames) was order e counted_was)))
             (one_more_shown (out_ahead s.cfg stood.bodies now order) (out_ahead s.cfg stood.bodies now (order ++ length first ∷ [])) s.waiting frame output
             (open_shown_more s.cfg is_open.hello is_open.requests stood.bodies is_open.accepted now order (length first) frame is_open.bodies_are is_open.greets (turned.1 ∙ ap Some frame_is))
             kept_shown),
@@ -319,7 +328,7 @@ module _ (limit : ℕ) (s : State) (input : List ℕ) (ran : List HandedAhead) (
         (subst (λ (p : Phase). IsInAhead p s.cfg s.desk stood.bodies now) (sym e) tt)
         (given_order first later there.it call there.has_call got order order_was)
         (subst (λ (p : Phase). HasEach p now order) (sym e) tt)
-        (subst (λ (p : Phase). AreCounted limit p left.out now order) (sym e) still_few)
+        (subst (λ (p : Phase). AreCounted limit p left.out (length s.waiting.frames) now order) (sym e) still_few)
         kept_shown),
   )
 
@@ -346,11 +355,12 @@ spent_stands_ahead limit s new input ran order output spent stood = record {
   phase = subst (λ (p : Phase). IsInAhead p new.cfg new.desk stood.bodies (dealt_ahead (asks stood.bodies) (given_so_far ran))) (sym spent.phase) tt;
   alone = stood.alone;
   order_is = stood.order_is;
-  counted = subst (λ (p : Phase). AreCounted limit p new.out (dealt_ahead (asks stood.bodies) (given_so_far ran)) order) (sym spent.phase)
-      (few_missing limit s.phase s.out (dealt_ahead (asks stood.bodies) (given_so_far ran)) order stood.counted);
+  counted = subst (λ (p : Phase). AreCounted limit p new.out (length new.waiting.frames) (dealt_ahead (asks stood.bodies) (given_so_far ran)) order) (sym spent.phase)
+      (subst (λ (w : Waiting). length (dealt_ahead (asks stood.bodies) (given_so_far ran)) + length w.frames ≤ length order + limit) (sym spent.waiting)
+      (few_missing limit s.phase s.out (length s.waiting.frames) (dealt_ahead (asks stood.bodies) (given_so_far ran)) order stood.counted));
   each = subst (λ (p : Phase). HasEach p (dealt_ahead (asks stood.bodies) (given_so_far ran)) order) (sym spent.phase) tt;
-  shows = ap (λ (w : Waiting). output ++ bytes_left w) spent.waiting ∙ stood.shows
-      ∙ ap (λ (c : SessionCfg). joined (out_ahead c stood.bodies (dealt_ahead (asks stood.bodies) (given_so_far ran)) order)) (sym spent.cfg);
+  shows = subst (λ (w : Waiting). ShowsSoFar (out_ahead new.cfg stood.bodies (dealt_ahead (asks stood.bodies) (given_so_far ran)) order) w output) (sym spent.waiting)
+      (subst (λ (c : SessionCfg). ShowsSoFar (out_ahead c stood.bodies (dealt_ahead (asks stood.bodies) (given_so_far ran)) order) s.waiting output) (sym spent.cfg) stood.shows);
 }
 
 pub lack_stands_ahead : (limit : ℕ) (s new : State) (input : List ℕ) (ran : List HandedAhead) (order output : List ℕ) → Lacks s new → StandsAhead limit s input ran order output → StandsAhead limit new input ran order output

@@ -16,11 +16,11 @@ use Rattle.ig_deals.specs.Telling.{crew_manner}
 use Rattle.ig_deals.specs.Replies.{reply_frame}
 use Rattle.ig_deals.specs.Turns.{Terms, Turn, turn_for, turn}
 use Rattle.ig_deals.specs.OutFrames.{desk_after}
-use Rattle.ig_deals.specs.Serves.{joined}
 use Rattle.ig_deals.proofs.DealLemmas.{calls-append}
 use Rattle.ig_deals.proofs.ReplyLemmas.{replies-append}
 use Rattle.ig_replies.specs.declared.terms.Terms.{Terms as HeldTerms}
 use Rattle.ig_replies.specs.RunTerms.{terms_of}
+use Rattle.ig_replies.specs.Showing.{after_push}
 use Rattle.ig_session.specs.declared.phase.Phase.TheVariants.{Open}
 use Rattle.ig_session.specs.declared.step.Ahead.TheVariants as steps
 use Rattle.ig_session.specs.declared.awaited.Awaited.{Awaited}
@@ -29,11 +29,12 @@ use Rattle.ig_session.specs.States.{State}
 use Rattle.ig_session.specs.Soundness.{IsSound}
 use Rattle.ig_session.specs.Comings.{Coming, Replies, Stops, Misses, Greets, Asks, coming}
 use Rattle.ig_session.specs.Steps.{opened, refused, handed_out, settled}
-use Rattle.ig_session.specs.StepsAhead.{is_at_cursors, has_out, is_full, is_held_up, asked_ahead, step_on, step_ahead_to, step_ahead}
+use Rattle.ig_session.specs.StandsFor.{ShowsSoFar}
+use Rattle.ig_session.specs.StepsAhead.{is_at_cursors, waits_for_all, has_out, is_full, is_held_up, asked_ahead, step_on, step_ahead_to, step_ahead}
 use Rattle.ig_session.specs.StandsAhead.{HandedAhead, given_so_far, deal_ahead, dealt_ahead, out_among, is_due, IsDue, LooksAtCursors, IsOrder, AreScansAlone, out_ahead, IsOpenAhead, StandsAhead}
 use Rattle.ig_session.specs.LawsAhead.{StandsAfterAhead}
-use Rattle.ig_session.proofs.ComingLemmas.{RequestIn, request_comes}
-use Rattle.ig_session.proofs.StandLemmas.{Reads, reads_body, asks_one}
+use Rattle.ig_session.proofs.ComingLemmas.{comes_as, RequestIn, request_comes}
+use Rattle.ig_session.proofs.StandLemmas.{Reads, reads_body, push_alone, asks_one}
 use Rattle.ig_session.proofs.AskLemmas.{least_open}
 use Rattle.ig_session.proofs.PlaceLemmas.{at_end, at_first, due_in, due_within, order_more, order_for, still_due}
 use Rattle.ig_session.proofs.OutLemmas.{dealt_ahead-append, given_ahead, calls_dealt, calls_among, out_among-append, out_one, out_none}
@@ -55,6 +56,11 @@ none_given terms desk asked call is = by_request asked.request is where
   by_request (Ok (Close resource)) is = absurd cc
   by_request (Err fault) is = absurd cc
 
+-- what isn't held up has room for one more call
+room_left : (limit : ℕ) (out : List Awaited) (next : Coming) → is_held_up limit out next ≡ false → length out < limit
+room_left limit out next held =
+    leb-false limit (length out) (neither (nat_le limit (length out)) (list_any (λ (a : Awaited). is_scan a.awaits) out) (neither (is_full limit out) (has_out out && waits_for_all next) held).0).0
+
 module _ (s : State) (input : List ℕ) (ran : List HandedAhead) (order output : List ℕ) (limit : ℕ) (terms : HeldTerms) (asked : Asked) (sound : IsSound s) (comes : coming s ≡ Asks terms asked) (held : is_held_up limit s.out (Asks terms asked) ≡ false) (stood : StandsAhead limit s input ran order output) where
   abbrev at : RequestIn s s.phase terms asked
   at = request_comes s terms asked comes
@@ -75,12 +81,15 @@ module _ (s : State) (input : List ℕ) (ran : List HandedAhead) (order output :
   none : is_at_cursors asked.request ≡ true → s.out ≡ []
   none looks = none_out s.out (first_false (has_out s.out) (is_at_cursors asked.request) (neither (is_full limit s.out) (has_out s.out && is_at_cursors asked.request) held).1 looks)
 
-  -- one more call may be out
   may_go : length s.out < limit
-  may_go = leb-false limit (length s.out) (neither (nat_le limit (length s.out)) (list_any (λ (a : Awaited). is_scan a.awaits) s.out) (neither (is_full limit s.out) (has_out s.out && is_at_cursors asked.request) held).0).0
+  may_go = room_left limit s.out (Asks terms asked) held
 
-  counts : (length deals ≡ length order + length s.out) × (length s.out ≤ limit)
-  counts = counted_open limit s.phase terms s.out deals order at.is_open stood.counted
+  counts : length deals ≡ length order + length s.out
+  counts = (counted_open limit s.phase terms s.out (length s.waiting.frames) deals order at.is_open stood.counted).0
+
+  -- no reply waits
+  idle : s.waiting.frames ≡ []
+  idle = (comes_as s (Asks terms asked) (λ never. cc) comes).none_waits
 
   abbrev bodies : List (List ℕ)
   bodies = stood.bodies ++ at.body ∷ []
@@ -159,13 +168,15 @@ module _ (s : State) (input : List ℕ) (ran : List HandedAhead) (order output :
           });
           alone = alone;
           order_is = order_kept;
-          counted = open_counted limit s.phase terms (s.out ++ awaited_of s.handed asked ∷ []) (deals ++ last ∷ []) order at.is_open
-              (omega (arith, counts.0, length-append deals (last ∷ []), length-append s.out (awaited_of s.handed asked ∷ [])), omega (arith, may_go, length-append s.out (awaited_of s.handed asked ∷ [])));
+          counted = open_counted limit s.phase terms (s.out ++ awaited_of s.handed asked ∷ []) (length s.waiting.frames) (deals ++ last ∷ []) order at.is_open (
+            omega (arith, counts, length-append deals (last ∷ []), length-append s.out (awaited_of s.handed asked ∷ [])),
+            omega (arith, may_go, ap length idle, length-append s.out (awaited_of s.handed asked ∷ [])),
+          );
           each = open_each s.phase terms (deals ++ last ∷ []) order at.is_open (λ place due. elim (due_push deals last place due) [
             | inl before ↦ each_open s.phase terms deals order at.is_open stood.each place before
             | inr here ↦ let not_yet : is_due (Some call) None ≡ true = ap (λ (c : Option Call). is_due c None) (sym is) ∙ here.1 in absurd cc
           ]);
-          shows = stood.shows ∙ ap joined (sym kept_shown);
+          shows = subst (λ (l : List (List ℕ)). ShowsSoFar l s.waiting output) (sym kept_shown) stood.shows;
         }),
       )
 
@@ -210,8 +221,8 @@ module _ (s : State) (input : List ℕ) (ran : List HandedAhead) (order output :
             λ less. each_open s.phase terms deals order at.is_open stood.each other (all_due 0 deals other (sym stood.out ∙ none (subst LooksAtCursors is_last looks)) less),
           );
         });
-        counted = open_counted limit s.phase terms s.out (deals ++ last ∷ []) (order ++ length deals ∷ []) at.is_open
-            (omega (arith, counts.0, length-append deals (last ∷ []), length-append order (length deals ∷ [])), counts.1);
+        counted = open_counted limit s.phase terms s.out (length (after_push s.waiting frame).frames) (deals ++ last ∷ []) (order ++ length deals ∷ []) at.is_open
+            (omega (arith, counts, length-append deals (last ∷ []), length-append order (length deals ∷ [])), omega (arith, may_go, push_alone s.waiting frame idle));
         each = open_each s.phase terms (deals ++ last ∷ []) (order ++ length deals ∷ []) at.is_open (λ place due. elim (due_push deals last place due) [
           | inl before ↦ Contains-append_left order (length deals ∷ []) place (each_open s.phase terms deals order at.is_open stood.each place before)
           | inr here ↦ subst (λ (p : ℕ). Contains (order ++ length deals ∷ []) p) (sym here.0) (Contains-push order (length deals))
@@ -240,9 +251,9 @@ on_stands limit s input ran order output Replies sound comes held stood = stays 
 on_stands limit s input ran order output (Stops end) sound comes held stood = stays limit s input ran order output stood
 on_stands limit s input ran order output (Misses missing) sound comes held stood = stays limit s input ran order output stood
 on_stands limit s input ran order output (Greets (Ok accepted)) sound comes held stood =
-    stays limit (opened accepted.version (crew_manner accepted.version) s) input ran order output (opened_stands_ahead limit s input ran order output (Ok accepted) sound comes stood accepted refl)
+    stays limit (opened accepted.version (crew_manner accepted.version) s) input ran order output (opened_stands_ahead limit s input ran order output (Ok accepted) sound comes (room_left limit s.out (Greets (Ok accepted)) held) stood accepted refl)
 on_stands limit s input ran order output (Greets (Err fault)) sound comes held stood =
-    stays limit (refused fault s) input ran order output (refused_stands_ahead limit s input ran order output (Err fault) sound comes stood fault refl)
+    stays limit (refused fault s) input ran order output (refused_stands_ahead limit s input ran order output (Err fault) sound comes (room_left limit s.out (Greets (Err fault)) held) stood fault refl)
 on_stands limit s input ran order output (Asks terms asked) sound comes held stood = asked_stands_ahead limit s input ran order output terms asked (call_for asked.request) sound comes held stood refl
 
 waits_or_goes : (b : Bool) (limit : ℕ) (s : State) (input : List ℕ) (ran : List HandedAhead) (order output : List ℕ) (next : Coming) → IsSound s → coming s ≡ next → is_held_up limit s.out next ≡ b

@@ -59,7 +59,7 @@ fault_is_end s input ran output within stood = (
 -- ---- where the input is waited for, or stops being frames
 
 -- the place where the stream was read to is an offset in the input
-place_is : (s : State) (input : List ℕ) (bodies : List (List ℕ)) → length input ≤ most_session_bytes → HandedOut client s.stream input bodies → s.stream.place + length s.stream.rest ≡ length input
+pub place_is : (s : State) (input : List ℕ) (bodies : List (List ℕ)) → length input ≤ most_session_bytes → HandedOut client s.stream input bodies → s.stream.place + length s.stream.rest ≡ length input
 place_is s input bodies within read = omega (arith, within, read.place, ap length read.begins.whole, length-append (flat_map Frame bodies) s.stream.rest)
 
 -- the bodies that were read in this phase: no hello was refused, and the next body has this least length
@@ -67,21 +67,21 @@ pub record Goes (phase : Phase) (bodies : List (List ℕ)) : Type 0 where
   pub going : IsGoing bodies
   pub least : least_in phase ≡ least_after client bodies
 
-goes_before : (bodies : List (List ℕ)) → bodies ≡ [] → Goes BeforeHello bodies
+pub goes_before : (bodies : List (List ℕ)) → bodies ≡ [] → Goes BeforeHello bodies
 goes_before bodies e = record { going = subst IsGoing (sym e) tt; least = ap (least_after client) (sym e) }
 
-goes_open : (terms : Terms) (bodies : List (List ℕ)) (hello : List ℕ) (requests : List (List ℕ)) (accepted : Hello) → bodies ≡ hello ∷ requests → greeting_of hello ≡ Ok accepted → Goes (Open terms) bodies
+pub goes_open : (terms : Terms) (bodies : List (List ℕ)) (hello : List ℕ) (requests : List (List ℕ)) (accepted : Hello) → bodies ≡ hello ∷ requests → greeting_of hello ≡ Ok accepted → Goes (Open terms) bodies
 goes_open terms bodies hello requests accepted e greets = record {
   going = subst IsGoing (sym e) (subst IsAccepted (sym greets) tt);
   least = ap (least_after client) (sym e);
 }
 
-here : (s : State) (phase : Phase) (bodies : List (List ℕ)) (f : Front) → s.stream.limit ≡ max_body → Goes phase bodies → front_at (least_in phase) s.stream ≡ f → front (least_after client bodies) max_body s.stream.rest ≡ f
+pub here : (s : State) (phase : Phase) (bodies : List (List ℕ)) (f : Front) → s.stream.limit ≡ max_body → Goes phase bodies → front_at (least_in phase) s.stream ≡ f → front (least_after client bodies) max_body s.stream.rest ≡ f
 here s phase bodies f limit goes e =
     ap (λ (n : ℕ). front n max_body s.stream.rest) (sym goes.least) ∙ ap (λ (n : ℕ). front (least_in phase) n s.stream.rest) (sym limit) ∙ e
 
 -- a stop at a length out of range
-found_stop : (s : State) (reads : List ℕ → Coming) (f : Front) (end : SessionEnd) → ((body : List ℕ) → reads body ≡ Stops end → ⊥) → found s reads f ≡ Stops end
+pub found_stop : (s : State) (reads : List ℕ → Coming) (f : Front) (end : SessionEnd) → ((body : List ℕ) → reads body ≡ Stops end → ⊥) → found s reads f ≡ Stops end
     → (n : ℤ) × (f ≡ Bad n) × (end ≡ ends.BadFrame s.stream.place n)
 found_stop s reads (Body body rest) end never e = absurd (never body e)
 found_stop s reads (Bad n) end never e = let same : ends.BadFrame s.stream.place n ≡ end = cc in (n, refl, sym same)

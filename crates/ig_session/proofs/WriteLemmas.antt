@@ -25,7 +25,7 @@ more_of frame gone n le =
     let len : length (piece_at frame gone) ≡ min (piece_left gone) (length (drop gone frame)) = length-take (piece_left gone) (drop gone frame) in
     ap (λ (l : List ℕ). take gone frame ++ l) (take-take n (piece_left gone) (drop gone frame) (omega (arith, len, le))) ∙ sym (take-add gone n frame)
 
-written_shows : (frames waiting : List (List ℕ)) (gone n : ℕ) (output : List ℕ) → n ≤ length (piece_of waiting gone)
+pub written_shows : (frames waiting : List (List ℕ)) (gone n : ℕ) (output : List ℕ) → n ≤ length (piece_of waiting gone)
     → ShowsSoFar frames (record { frames = waiting; gone = gone }) output → ShowsSoFar frames (frames_when waiting (gone + n)) (output ++ take n (piece_of waiting gone))
 written_shows frames [] gone n output le so = record {
   shown = so.shown;
@@ -55,7 +55,7 @@ written_shows frames (frame ∷ others) gone n output le so =
       none_gone (f ∷ l) = refl
 
 -- no more frames wait than before
-fewer_wait : (waiting : List (List ℕ)) (n : ℕ) → length (frames_when waiting n).frames ≤ length waiting
+pub fewer_wait : (waiting : List (List ℕ)) (n : ℕ) → length (frames_when waiting n).frames ≤ length waiting
 fewer_wait [] n = omega arith
 fewer_wait (frame ∷ others) n = elim (cases_lt n (length frame)) [
   | inl lt ↦ let stays = ap (λ (w : Waiting). length w.frames) (cond-true (nat_lt n (length frame)) (record { frames = frame ∷ others; gone = n }) (record { frames = others; gone = 0 }) (lt-ltb n (length frame) lt)) in omega (arith, stays)

@@ -1,18 +1,23 @@
 -- What each step keeps of what a session stands for whose calls are answered in any order.
-use Rattle.std.specs.Prelude.{◌≡◌, ℕ, zero, suc, ◌≤◌, List, [], ◌∷◌, ◌++◌, length, take, slice_get, None, Some}
+use Rattle.std.specs.Prelude.{◌≡◌, ℕ, zero, suc, ◌<◌, ◌≤◌, List, [], ◌∷◌, ◌++◌, length, take, slice_get, None, Some}
 use Rattle.ig_base.specs.Numbers.{AreBytes}
+use Rattle.ig_wire.specs.Limits.{most_session_bytes}
 use Rattle.ig_caches.specs.declared.call.Call.{Call}
 use Rattle.ig_deals.specs.declared.cfg.SessionCfg.{SessionCfg}
+use Rattle.ig_deals.specs.declared.end.SessionEnd.{SessionEnd}
+use Rattle.ig_deals.specs.declared.end.SessionEnd.TheVariants as ends
 use Rattle.ig_deals.specs.Deals.{Got}
 use Rattle.ig_replies.specs.Showing.{piece_shown}
 use Rattle.ig_session.specs.declared.step.Ahead.{Ahead}
 use Rattle.ig_session.specs.declared.step.Ahead.TheVariants as steps
 use Rattle.ig_session.specs.States.{State, new_state}
 use Rattle.ig_session.specs.Soundness.{IsSound}
-use Rattle.ig_session.specs.Steps.{fed, written, IsSpent, Lacks}
+use Rattle.ig_session.specs.Comings.{Misses, coming}
+use Rattle.ig_session.specs.Steps.{fed, written, IsSpent, Lacks, end_at}
 use Rattle.ig_session.specs.Awaiting.{without_nth}
 use Rattle.ig_session.specs.StepsAhead.{step_ahead, answered_nth}
 use Rattle.ig_session.specs.StandsAhead.{HandedAhead, StandsAhead}
+use Rattle.ig_session.specs.RunsAhead.{RunsAhead}
 
 abbrev pub NewStandsAhead : Type 0
 NewStandsAhead = (limit : ℕ) (cfg : SessionCfg) → StandsAhead limit (new_state cfg) [] [] [] []
@@ -68,3 +73,30 @@ WrittenStandsAhead =
     (limit : ℕ) (s : State) (input : List ℕ) (ran : List HandedAhead) (order output : List ℕ) (n : ℕ)
     → n ≤ length (piece_shown s.waiting) → StandsAhead limit s input ran order output
     → StandsAhead limit (written s n) input ran order (output ++ take n (piece_shown s.waiting))
+
+-- ---- ends
+
+-- a session that stops has run to this end
+abbrev pub StopIsEndAhead : Type 0
+StopIsEndAhead =
+    (limit : ℕ) (s : State) (input : List ℕ) (ran : List HandedAhead) (order output : List ℕ) (end : SessionEnd) → IsSound s
+    → length input ≤ most_session_bytes → StandsAhead limit s input ran order output
+    → (step_ahead limit s).0 ≡ steps.Stop end → RunsAhead limit s.cfg input output ran order end
+
+-- a write fault and a lack of memory may come at any time
+abbrev pub FaultIsEndAhead : Type 0
+FaultIsEndAhead =
+    (limit : ℕ) (s : State) (input : List ℕ) (ran : List HandedAhead) (order output : List ℕ)
+    → length input ≤ most_session_bytes → StandsAhead limit s input ran order output
+    → RunsAhead limit s.cfg input output ran order ends.WriteFault
+    × RunsAhead limit s.cfg input output ran order ends.NoMemory
+
+-- where all whole frames were read and answered, the input may end or fail, or be as long as it may be
+abbrev pub PauseIsEndAhead : Type 0
+PauseIsEndAhead =
+    (limit : ℕ) (s : State) (input : List ℕ) (ran : List HandedAhead) (order output : List ℕ) (missing : ℕ) → IsSound s
+    → length input ≤ most_session_bytes → StandsAhead limit s input ran order output → s.out ≡ []
+    → coming s ≡ Misses missing
+    → (length input < most_session_bytes → RunsAhead limit s.cfg input output ran order (end_at s (coming s))
+    × RunsAhead limit s.cfg input output ran order ends.ReadFault)
+    × (length input ≡ most_session_bytes → RunsAhead limit s.cfg input output ran order ends.ByteLimit)

@@ -14,14 +14,14 @@ use Rattle.ig_deals.specs.Desk.{Desk, fresh_desk}
 use Rattle.ig_deals.specs.Telling.{crew_manner}
 use Rattle.ig_deals.specs.Turns.{Terms}
 use Rattle.ig_deals.specs.OutFrames.{desk_after, reply_frames, terms_at}
-use Rattle.ig_deals.specs.Serves.{IsRefused, joined}
+use Rattle.ig_deals.specs.Serves.{IsRefused}
 use Rattle.ig_replies.specs.RunTerms.{terms_of}
-use Rattle.ig_replies.specs.Showing.{bytes_left}
 use Rattle.ig_session.specs.declared.phase.Phase.{Phase}
 use Rattle.ig_session.specs.declared.phase.Phase.TheVariants.{BeforeHello, Open, Refused, OutOfMemory}
 use Rattle.ig_session.specs.declared.awaited.Awaited.{Awaited}
 use Rattle.ig_session.specs.Awaiting.{awaited_of}
 use Rattle.ig_session.specs.States.{State}
+use Rattle.ig_session.specs.StandsFor.{ShowsSoFar}
 use Rattle.ig_session.specs.StepsAhead.{is_at_cursors}
 
 -- ---- calls
@@ -102,11 +102,12 @@ abbrev pub HasEach : Phase → List Deal → List ℕ → Type 0
 HasEach OutOfMemory deals order = Unit {0}
 HasEach phase deals order = (place : ℕ) → IsDue (slice_get deals place) → Contains order place
 
--- Each request was replied, or its call is out, and no more calls are out than may be. Where memory ran out, no more replies
--- are missing than calls may be out.
-abbrev pub AreCounted : ℕ → Phase → List Awaited → List Deal → List ℕ → Type 0
-AreCounted limit OutOfMemory out deals order = length deals ≤ length order + limit
-AreCounted limit phase out deals order = (length deals ≡ length order + length out) × (length out ≤ limit)
+-- Each request was replied, or its call is out, and no more calls are out and replies wait than calls may be out. Where memory
+-- ran out, no more replies are missing or wait.
+abbrev pub AreCounted : ℕ → Phase → List Awaited → ℕ → List Deal → List ℕ → Type 0
+AreCounted limit OutOfMemory out waiting deals order = length deals + waiting ≤ length order + limit
+AreCounted limit phase out waiting deals order =
+    (length deals ≡ length order + length out) × (length out + waiting ≤ limit)
 
 -- the frames of the replies in this order
 abbrev pub in_order : List (List ℕ) → List ℕ → List (List ℕ)
@@ -158,5 +159,5 @@ pub record StandsAhead (limit : ℕ) (s : State) (input : List ℕ) (ran : List 
   pub alone : AreScansAlone (dealt_ahead (asks bodies) (given_so_far ran))
   pub order_is : IsOrder (dealt_ahead (asks bodies) (given_so_far ran)) order
   pub each : HasEach s.phase (dealt_ahead (asks bodies) (given_so_far ran)) order
-  pub counted : AreCounted limit s.phase s.out (dealt_ahead (asks bodies) (given_so_far ran)) order
-  pub shows : output ++ bytes_left s.waiting ≡ joined (out_ahead s.cfg bodies (dealt_ahead (asks bodies) (given_so_far ran)) order)
+  pub counted : AreCounted limit s.phase s.out (length s.waiting.frames) (dealt_ahead (asks bodies) (given_so_far ran)) order
+  pub shows : ShowsSoFar (out_ahead s.cfg bodies (dealt_ahead (asks bodies) (given_so_far ran)) order) s.waiting output
