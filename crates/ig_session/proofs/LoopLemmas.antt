@@ -20,6 +20,7 @@ use Rattle.ig_session.specs.Comings.{Misses, coming, IsPaused}
 use Rattle.ig_session.specs.Serving.{HasEnded, IsStillOpen, ReadHasFailed, WriteHasFailed, AnswersAll, TakesPiece, EndsAnswering, EndsTaking, IsCaused, Served, Going}
 use Rattle.ig_session.proofs.HistoryLemmas.{StandsOn-nothing, joins_keeps}
 use Rattle.ig_session.proofs.StandLemmas.{new_stands}
+use Rattle.ig_session.proofs.AskLemmas.{nothing_pending}
 use Rattle.ig_session.proofs.SinceLemmas.{held_not}
 use Rattle.ig_session.proofs.SoundLemmas.{new_sound}
 
@@ -95,6 +96,11 @@ module _ {C : Type 0} (stands : C → PlainCaches → List (Entry Call Answer) �
         paused = paused.paused;
         none_out = paused.none_out;
       }
+
+  -- no call is out after a piece was taken
+  pub taken_none : (a b : C) (s0 s1 : State) (x0 x1 x2 : SourceState) (y0 y1 : SinkState) (taken taken' : ℕ) → Going stands seat cfg a b s0 x0 x1 y0 y1 taken → TakesPiece s0 s1 x1 x2 taken (Ok taken') → s1.out ≡ []
+  taken_none a b s0 s1 x0 x1 x2 y0 y1 taken taken' going takes =
+      let stood = (takes.continues going.input going.ran going.output going.counts going.stands_for).1 in (nothing_pending (length going.ran) s1.out stood.pending stood.awaited).0
 
   -- what a read says of the source, said of it since the session began
   ended_since : (x0 x1 x2 : SourceState) → HasEnded x1 x2 → x1.faults ≡ x0.faults → (x0.holds ≡ true → x1.holds ≡ true) → HasEnded x0 x2

@@ -1,11 +1,13 @@
 -- That a command does what its words ask for.
-use Rattle.std.proofs.Common.{◌≡◌, ◌⊎◌, inl, inr, ℕ, List, [], ◌∷◌, Option, Some, refl, subst}
+use Rattle.std.proofs.Common.{◌≡◌, ◌⊎◌, inl, inr, ℕ, List, [], ◌∷◌, Option, Some, refl, subst, arith, ◌<◌, ◌≤◌}
 use Rattle.ig_link.specs.States.{SourceState, SinkState}
 use Rattle.ig_link.proofs.StateLemmas.{SourceAdvances-nothing, SinkAdvances-nothing}
 use Rattle.ig_base.specs.Frames.{client}
 use Rattle.ig_base.proofs.FrameLemmas.{Begins-start}
 use Rattle.ig_caches.specs.PlainCaches.{PlainCaches, fresh_caches}
-use Rattle.ig_caches.specs.Starts.{CanStart}
+use Rattle.ig_caches.specs.declared.fault.StartFault.{StartFault}
+use Rattle.ig_caches.specs.declared.fault.StartFault.TheVariants as fault
+use Rattle.ig_caches.specs.Starts.{CanStart, IsStartFault}
 use Rattle.ig_deals.specs.declared.end.SessionEnd.{SessionEnd}
 use Rattle.ig_deals.specs.declared.end.SessionEnd.TheVariants as ends
 use Rattle.ig_session.specs.StandsAlone.{StandsAlone}
@@ -60,6 +62,13 @@ pipe_none names source sink = record {
   status_is = refl;
   named = λ no. absurd (no refl);
 }
+
+-- names that are refused are no names to start with
+pub cannot_start : (names : List (List ℕ)) (f : StartFault) → (f ≡ fault.NoMemory → ⊥) → IsStartFault names f → ¬ (CanStart names)
+cannot_start names fault.TooMany other is can = omega (arith, is, can.few)
+cannot_start names (fault.Empty at) other is can = can.no_empty at is.1.here
+cannot_start names (fault.Taken at) other is can = can.distinct at is.2.here
+cannot_start names fault.NoMemory other is can = other refl
 
 pub named : (words names : List (List ℕ)) (source source' : SourceState) (sink sink' : SinkState) (status : ℕ) → Some names ≡ pipe_names words
     → PipeRuns names source source' sink sink' status → RunsPlain words source source' sink sink' status

@@ -18,6 +18,13 @@ fn is_cache_name(word: &str) -> bool
     }
 }
 
+/// Whether each word may name a cache.
+fn each_is_name(words: &[String]) -> bool
+    ensures { result ≡ list_all (λ word. is_name (string_bytes word)) words.now }
+{
+    words.iter().all(|word| is_cache_name(word.as_str()))
+}
+
 /// Whether the words may name the caches of `pipe`: there are 1 to 64 of them, and each may name one.
 fn are_cache_names(words: &[String]) -> bool
     ensures { result ≡ are_names (map string_bytes words.now) }
@@ -28,7 +35,7 @@ fn are_cache_names(words: &[String]) -> bool
     if words.len() > NAMES {
         return false;
     }
-    words.iter().all(|word| is_cache_name(word.as_str()))
+    each_is_name(words)
 }
 
 /// The names of the caches where the words are `pipe NAME ..`, and `None` where they aren't.

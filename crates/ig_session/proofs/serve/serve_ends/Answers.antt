@@ -2,7 +2,7 @@ use Rattle.std.proofs.Common.{◌≡◌, ◌∙◌, ℕ, Ok, Err, refl, sym, sub
 use Rattle.ig_session.specs.States.{State}
 use Rattle.ig_session.specs.Serving.{AnswersAll, Going}
 use Rattle.ig_session.proofs.TakeLemmas.{all_fed}
-use Rattle.ig_session.proofs.LoopLemmas.{none_served, going_start, going_on, take_ended, answer_ended}
+use Rattle.ig_session.proofs.LoopLemmas.{none_served, going_start, going_on, taken_none, take_ended, answer_ended}
 use Rattle.ig_session.proofs.serve.serve_ends.Goals as goal
 
 pub returns-in_default-clause-served : goal.returns-in_default-clause-served
@@ -21,6 +21,21 @@ pieces-init g c = record {
   room = omega (arith, c.in-Ok.ensures.len);
 }
 
+pub take_piece-requires-clause-sound : goal.take_piece-requires-clause-sound
+take_piece-requires-clause-sound g c = c.pieces.invariant.going.sound
+
+pub take_piece-requires-clause-paused : goal.take_piece-requires-clause-paused
+take_piece-requires-clause-paused g c = c.pieces.invariant.going.paused
+
+pub take_piece-requires-clause-none : goal.take_piece-requires-clause-none
+take_piece-requires-clause-none g c = c.pieces.invariant.going.none_out
+
+pub take_piece-requires-clause-room : goal.take_piece-requires-clause-room
+take_piece-requires-clause-room g c = c.pieces.invariant.room
+
+pub take_piece-requires-clause-within : goal.take_piece-requires-clause-within
+take_piece-requires-clause-within g c = c.pieces.invariant.going.within
+
 pub take_piece-requires-clause-counts : goal.take_piece-requires-clause-counts
 take_piece-requires-clause-counts g c =
     let going = c.pieces.invariant.going in
@@ -30,6 +45,13 @@ take_piece-requires-clause-counts g c =
 pub returns-in-Err-clause-served : goal.returns-in-Err-clause-served
 returns-in-Err-clause-served g c = take_ended g.C.Caller.stands (g.C.Caller.seat c.args.caller.now) c.args.cfg.now c.args.caller.now c.pieces.caller c.pieces.session c.take_piece.new.session (g.S.Source.source c.args.source.now) (g.S.Source.source c.pieces.source) (g.S.Source.source c.take_piece.new.source) (g.K.Sink.sink c.args.sink.now) (g.K.Sink.sink c.pieces.sink)
     c.pieces.taken c.in-Err.end c.pieces.invariant.going c.in-Err.ensures.takes
+
+pub answer_all-requires : goal.answer_all-requires
+answer_all-requires g c = taken_none g.C.Caller.stands (g.C.Caller.seat c.args.caller.now) c.args.cfg.now c.args.caller.now c.pieces.caller c.pieces.session c.take_piece.new.session (g.S.Source.source c.args.source.now) (g.S.Source.source c.pieces.source) (g.S.Source.source c.take_piece.new.source) (g.K.Sink.sink c.args.sink.now) (g.K.Sink.sink c.pieces.sink)
+    c.pieces.taken c.in-Ok-take_piece.more c.pieces.invariant.going c.in-Ok-take_piece.ensures.takes
+
+pub pieces-smaller : goal.pieces-smaller
+pieces-smaller g c = let takes = c.in-Ok-take_piece.ensures.takes in omega (arith, takes.cause.0, takes.cause.1)
 
 pub pieces-preserved : goal.pieces-preserved
 pieces-preserved g c =
