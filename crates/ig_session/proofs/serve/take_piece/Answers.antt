@@ -1,5 +1,5 @@
 use Rattle.std.proofs.Common.{◌≡◌, ◌++◌, ◌∙◌, sym, ap, subst, refl, arith, length-take-le, length, take, drop, ◌+◌, ◌<◌, List, ℕ, Ok, Err}
-use Rattle.std.proofs.lemmas.List.{take-append-le, length-take}
+use Rattle.std.proofs.lemmas.List.{take-append-le, length-append, length-take}
 use Rattle.ig_base.specs.Frames.{max_body}
 use Rattle.ig_base.specs.Numbers.{AreBytes}
 use Rattle.ig_link.specs.ReadsAs.{ReadSome}
@@ -33,13 +33,13 @@ pub feed-requires-clause-held : goal.feed-requires-clause-held
 feed-requires-clause-held g c =
     let some : ReadSome c.in-Bytes.n (g.S.Source.source c.args.source.now) (g.S.Source.source c.read.new.self) c.read.new.buf = c.in-Bytes.ensures.answer in
     let few : length c.args.session.now.stream.rest < 4 + max_body = paused_few c.args.session.now c.requires.sound c.requires.paused in
-    let piece = length-take-le c.in-Bytes.n (c.read.new.buf ++ drop c.min-room.result c.args.buf.now) (omega (arith, some.fits)) in
+    let piece = length-take-le c.in-Bytes.n (c.read.new.buf ++ drop c.min-room.result c.args.buf.now) (omega (arith, some.fits, length-append c.read.new.buf (drop c.min-room.result c.args.buf.now))) in
     omega (arith, few, piece, some.fits, c.read.auto.buf, length-take c.min-room.result c.args.buf.now, c.min-room.ensures, c.requires.room)
 
 pub feed-requires-clause-fed : goal.feed-requires-clause-fed
 feed-requires-clause-fed g c =
     let some : ReadSome c.in-Bytes.n (g.S.Source.source c.args.source.now) (g.S.Source.source c.read.new.self) c.read.new.buf = c.in-Bytes.ensures.answer in
-    let piece = length-take-le c.in-Bytes.n (c.read.new.buf ++ drop c.min-room.result c.args.buf.now) (omega (arith, some.fits)) in
+    let piece = length-take-le c.in-Bytes.n (c.read.new.buf ++ drop c.min-room.result c.args.buf.now) (omega (arith, some.fits, length-append c.read.new.buf (drop c.min-room.result c.args.buf.now))) in
     omega (arith, piece, some.fits, c.read.auto.buf, length-take c.min-room.result c.args.buf.now, c.min-room.ensures, c.requires.room, c.requires.counts, c.requires.within)
 
 pub returns-in-Ok-clause-takes : goal.returns-in-Ok-clause-takes
