@@ -1,13 +1,12 @@
 -- An answer keeps what a session stands for whose calls are answered in any order.
-use Rattle.std.proofs.Common.{◌≡◌, ◌⊎◌, inl, inr, ℕ, zero, suc, ◌+◌, ◌<◌, ◌≤◌, List, [], ◌∷◌, ◌++◌, map, length, Option, None, Some, Result, Ok, Err, refl, sym, ap, ◌∙◌, subst, arith, append-nil, append_assoc, length-append}
-use Rattle.std.specs.Prelude.{◌↔◌, Bool, true, false, Contains, slice_get}
+use Rattle.std.proofs.Common.{◌≡◌, ◌⊎◌, inl, inr, ℕ, suc, ◌<◌, ◌≤◌, List, [], ◌∷◌, ◌++◌, length, Option, None, Some, Result, Ok, Err, refl, sym, ap, ◌∙◌, subst, arith, append-nil, append_assoc, length-append, ◌+◌}
+use Rattle.std.specs.Prelude.{Bool, true, false, Contains, slice_get}
 use Rattle.std.proofs.lemmas.Bool.{cases_eq, cases_lt}
 use Rattle.std.proofs.lemmas.List.Elements.{Contains-append_left, Contains-push}
 use Rattle.ig_base.specs.Numbers.{AreBytes}
 use Rattle.ig_base.specs.Frames.{client}
 use Rattle.ig_wire.specs.declared.version.Version.{Version}
 use Rattle.ig_wire.specs.declared.head.Fault.{Fault}
-use Rattle.ig_wire.specs.declared.hello.HelloFault.{HelloFault}
 use Rattle.ig_frame.specs.Streams.{Stream, HandedOut}
 use Rattle.ig_caches.specs.declared.call.Call.{Call}
 use Rattle.ig_caches.specs.declared.request.Request.{Request}
@@ -15,17 +14,16 @@ use Rattle.ig_caches.specs.declared.request.Request.TheVariants.{Run, Scan, Next
 use Rattle.ig_deals.specs.declared.cfg.SessionCfg.{SessionCfg}
 use Rattle.ig_deals.specs.Hellos.{Greeting}
 use Rattle.ig_deals.specs.Asks.{Asked, asks_after, asks}
-use Rattle.ig_deals.specs.Deals.{Got, Deal, call_for, calls}
+use Rattle.ig_deals.specs.Deals.{Got, Deal, call_for}
 use Rattle.ig_deals.specs.Desk.{Desk, fresh_desk}
 use Rattle.ig_deals.specs.Replies.{reply_frame}
 use Rattle.ig_deals.specs.Turns.{Terms, Turn, turn}
 use Rattle.ig_deals.specs.OutFrames.{desk_after}
-use Rattle.ig_deals.specs.Serves.{joined}
 use Rattle.ig_deals.specs.Laws.{IsApart}
 use Rattle.ig_deals.proofs.ReplyLemmas.{replies-append}
 use Rattle.ig_replies.specs.declared.terms.Terms.{Terms as HeldTerms}
 use Rattle.ig_replies.specs.RunTerms.{terms_of}
-use Rattle.ig_replies.specs.Showing.{Waiting, bytes_left, after_push}
+use Rattle.ig_replies.specs.Showing.{Waiting, after_push}
 use Rattle.ig_session.specs.declared.phase.Phase.{Phase}
 use Rattle.ig_session.specs.declared.phase.Phase.TheVariants.{BeforeHello, Open, Refused, OutOfMemory}
 use Rattle.ig_session.specs.declared.awaited.Awaited.{Awaited}
@@ -33,15 +31,16 @@ use Rattle.ig_session.specs.Awaiting.{awaited_of, deal_of, awaited_at, without_n
 use Rattle.ig_session.specs.States.{State}
 use Rattle.ig_session.specs.Steps.{settled_in, answered_at, IsSpent, Lacks}
 use Rattle.ig_session.specs.StepsAhead.{is_at_cursors, answered_nth}
-use Rattle.ig_session.specs.StandsAhead.{HandedAhead, given_so_far, dealt_ahead, out_next, out_among, is_due, IsDue, LooksAtCursors, IsOrder, AreScansAlone, HasEach, out_ahead, IsOpenAhead, IsInAhead, StandsAhead}
+use Rattle.ig_session.specs.StandsFor.{ShowsSoFar}
+use Rattle.ig_session.specs.StandsAhead.{HandedAhead, given_so_far, dealt_ahead, out_among, is_due, IsDue, LooksAtCursors, IsOrder, AreScansAlone, HasEach, AreCounted, out_ahead, IsOpenAhead, IsInAhead, StandsAhead}
 use Rattle.ig_session.specs.LawsAhead.{with_got}
 use Rattle.ig_session.proofs.KeptLemmas.{kept_turn}
-use Rattle.ig_session.proofs.ApartLemmas.{left_at, apart_turn, desk_apart, crew_tells}
+use Rattle.ig_session.proofs.ApartLemmas.{apart_turn, desk_apart, crew_tells}
 use Rattle.ig_session.proofs.PlaceLemmas.{at_end, at_other, at_first, due_in, due_within, order_more, order_for, still_due}
 use Rattle.ig_session.proofs.OutLemmas.{calls_among, out_with, found_out, others_out, IsOut, is_out, deals_before, deals_after, number_is, dealt_out, dealt_given, handed_given, length_given}
-use Rattle.ig_session.proofs.AheadLemmas.{ahead_terms, frames_at, own_frame, frame_there, frames_beside, frames_first, frame_last, one_more_shown, open_shown_more, same_shown}
-use Rattle.ig_session.proofs.DueLemmas.{all_due, Beside, InFirst, Itself, InLater, beside}
-use Rattle.ig_session.proofs.StandsByLemmas.{stands_by, open_in_ahead, in_open_ahead, each_open, open_each}
+use Rattle.ig_session.proofs.AheadLemmas.{ahead_terms, frames_at, frame_there, frames_beside, frames_first, frame_last, one_more_shown, one_more_waits, open_shown_more, same_shown}
+use Rattle.ig_session.proofs.DueLemmas.{all_due, InFirst, Itself, InLater, beside}
+use Rattle.ig_session.proofs.StandsByLemmas.{counted_open, open_counted, few_missing, stands_by, open_in_ahead, in_open_ahead, each_open, open_each}
 use Rattle.ig_session.proofs.AheadStepLemmas.{none_given}
 
 apart_of : (request : Result Request Fault) → is_at_cursors request ≡ false → IsApart request
@@ -176,7 +175,7 @@ module _ (first later : List Deal) (it : Asked) (call : Call) (has_call : call_f
 
 -- ---- the whole
 
-module _ (s : State) (input : List ℕ) (ran : List HandedAhead) (order output : List ℕ) (nth : ℕ) (call : Call) (got : Got) (at : slice_get ran nth ≡ Some (record { call = call; got = None })) (stood : StandsAhead s input ran order output) where
+module _ (limit : ℕ) (s : State) (input : List ℕ) (ran : List HandedAhead) (order output : List ℕ) (nth : ℕ) (call : Call) (got : Got) (at : slice_get ran nth ≡ Some (record { call = call; got = None })) (stood : StandsAhead limit s input ran order output) where
   abbrev there : IsOut (asks stood.bodies) ran nth call
   there = is_out (asks stood.bodies) ran nth call stood.handed_out at
 
@@ -213,14 +212,15 @@ module _ (s : State) (input : List ℕ) (ran : List HandedAhead) (order output :
   others : without_nth s.out nth ≡ out_among 0 now
   others = subst (λ (n : ℕ). without_nth s.out n ≡ out_among 0 now) number (others_out first later there.it call there.has_call s.out got out_was)
 
-  kept_shown : output ++ bytes_left s.waiting ≡ joined (out_ahead s.cfg stood.bodies now order)
-  kept_shown = stood.shows ∙ ap (λ (l : List Deal). joined (out_ahead s.cfg stood.bodies l order)) was_dealt
-      ∙ ap joined (same_shown s.cfg stood.bodies was now order (given_frames first later there.it call there.has_call got s.cfg order alone order_was))
+  kept_shown : ShowsSoFar (out_ahead s.cfg stood.bodies now order) s.waiting output
+  kept_shown = subst (λ (l : List (List ℕ)). ShowsSoFar l s.waiting output)
+      (ap (λ (l : List Deal). out_ahead s.cfg stood.bodies l order) was_dealt
+      ∙ same_shown s.cfg stood.bodies was now order (given_frames first later there.it call there.has_call got s.cfg order alone order_was)) stood.shows
 
   -- whichever phase the session is in then, and whatever is shown
   given_stands : (new : State) (places : List ℕ) → new.stream ≡ s.stream → new.out ≡ without_nth s.out nth → new.handed ≡ s.handed → IsInAhead new.phase new.cfg new.desk stood.bodies now
-      → IsOrder now places → HasEach new.phase now places → output ++ bytes_left new.waiting ≡ joined (out_ahead new.cfg stood.bodies now places) → StandsAhead new input (with_got ran nth got) places output
-  given_stands new places stream out handed phase ordered each shows = stands_by new input (with_got ran nth got) places output stood.bodies now (record {
+      → IsOrder now places → HasEach new.phase now places → AreCounted limit new.phase new.out (length new.waiting.frames) now places → ShowsSoFar (out_ahead new.cfg stood.bodies now places) new.waiting output → StandsAhead limit new input (with_got ran nth got) places output
+  given_stands new places stream out handed phase ordered each counted shows = stands_by limit new input (with_got ran nth got) places output stood.bodies now (record {
     read = subst (λ (t : Stream). HandedOut client t input stood.bodies) (sym stream) stood.read;
     are_bytes = subst (λ (t : Stream). AreBytes t.rest) (sym stream) stood.are_bytes;
     handed = handed_given (asks stood.bodies) ran nth call stood.handed_out there got;
@@ -231,16 +231,47 @@ module _ (s : State) (input : List ℕ) (ran : List HandedAhead) (order output :
     alone = given_alone first later there.it call there.has_call got alone;
     order_is = ordered;
     each = each;
+    counted = counted;
     shows = shows;
   })
 
+  counted_was : AreCounted limit s.phase s.out (length s.waiting.frames) was order
+  counted_was = subst (λ (l : List Deal). AreCounted limit s.phase s.out (length s.waiting.frames) l order) was_dealt stood.counted
+
+  as_long : length now ≡ length was
+  as_long = omega (arith, length-append first (record { asked = there.it; got = None } ∷ later), length-append first (record { asked = there.it; got = Some got } ∷ later))
+
+  still_few : length now + length s.waiting.frames ≤ length order + limit
+  still_few =
+      let before_it : length was + length s.waiting.frames ≤ length order + limit = few_missing limit s.phase s.out (length s.waiting.frames) was order counted_was in
+      omega (arith, as_long, before_it)
+
+  -- one call less is out
+  one_fewer : length s.out ≡ suc (length (without_nth s.out nth))
+  one_fewer =
+      let front : List Awaited = out_among 0 first in
+      let back : List Awaited = out_among (suc (calls_among first)) later in
+      let one : length s.out ≡ length (front ++ awaited_of (calls_among first) there.it ∷ back) = ap length (out_was ∙ out_with first later there.it call there.has_call None) in
+      let others_are : length (without_nth s.out nth) ≡ length (front ++ back) = ap length (others ∙ out_with first later there.it call there.has_call (Some got)) in
+      omega (arith, one, others_are, length-append front (awaited_of (calls_among first) there.it ∷ back), length-append front back)
+
+  one_counted : (frame : List ℕ) → (length was ≡ length order + length s.out) × (length s.out + length s.waiting.frames ≤ limit)
+      → (length now ≡ length (order ++ length first ∷ []) + length (without_nth s.out nth)) × (length (without_nth s.out nth) + length (after_push s.waiting frame).frames ≤ limit)
+  one_counted frame before_it = (
+    omega (arith, before_it.0, as_long, one_fewer, length-append order (length first ∷ [])),
+    omega (arith, before_it.1, one_fewer, one_more_waits s.waiting frame),
+  )
+
   -- a reply that is lost: none is added
-  pub lost_stands_ahead : (new : State) → IsSpent s new (without_nth s.out nth) → StandsAhead new input (with_got ran nth got) order output
+  pub lost_stands_ahead : (new : State) → IsSpent s new (without_nth s.out nth) → StandsAhead limit new input (with_got ran nth got) order output
   lost_stands_ahead new spent = given_stands new order spent.stream spent.out_are spent.handed
       (subst (λ (p : Phase). IsInAhead p new.cfg new.desk stood.bodies now) (sym spent.phase) tt)
       (given_order first later there.it call there.has_call got order order_was)
       (subst (λ (p : Phase). HasEach p now order) (sym spent.phase) tt)
-      (ap (λ (w : Waiting). output ++ bytes_left w) spent.waiting ∙ kept_shown ∙ ap (λ (c : SessionCfg). joined (out_ahead c stood.bodies now order)) (sym spent.cfg))
+      (subst (λ (p : Phase). AreCounted limit p new.out (length new.waiting.frames) now order) (sym spent.phase)
+      (subst (λ (w : Waiting). length now + length w.frames ≤ length order + limit) (sym spent.waiting) still_few))
+      (subst (λ (w : Waiting). ShowsSoFar (out_ahead new.cfg stood.bodies now order) w output) (sym spent.waiting)
+      (subst (λ (c : SessionCfg). ShowsSoFar (out_ahead c stood.bodies now order) s.waiting output) (sym spent.cfg) kept_shown))
 
   -- what the session is after the answer
   abbrev left : State
@@ -250,7 +281,7 @@ module _ (s : State) (input : List ℕ) (ran : List HandedAhead) (order output :
   answered_is = ap (λ (a : Option Awaited). answered_at a s got) found
 
   abbrev After : State → Type 0
-  After new = (more : List ℕ) × (length more ≤ 1) × StandsAhead new input (with_got ran nth got) (order ++ more) output
+  After new = (more : List ℕ) × (length more ≤ 1) × StandsAhead limit new input (with_got ran nth got) (order ++ more) output
 
   -- of an open session: the reply waits after the others
   open_after : (terms : HeldTerms) → s.phase ≡ Open terms → After (settled_in (Open terms) left (awaited_of nth there.it) got)
@@ -281,6 +312,7 @@ module _ (s : State) (input : List ℕ) (ran : List HandedAhead) (order output :
             }))
             (given_next first later there.it call there.has_call got order alone order_was each)
             (open_each s.phase terms now (order ++ length first ∷ []) e (given_each first later there.it call there.has_call got order each))
+            (open_counted limit s.phase terms left.out (length (after_push s.waiting frame).frames) now (order ++ length first ∷ []) e (one_counted frame (counted_open limit s.phase terms s.out (length s.waiting.frames) was order e counted_was)))
             (one_more_shown (out_ahead s.cfg stood.bodies now order) (out_ahead s.cfg stood.bodies now (order ++ length first ∷ [])) s.waiting frame output
             (open_shown_more s.cfg is_open.hello is_open.requests stood.bodies is_open.accepted now order (length first) frame is_open.bodies_are is_open.greets (turned.1 ∙ ap Some frame_is))
             kept_shown),
@@ -291,11 +323,12 @@ module _ (s : State) (input : List ℕ) (ran : List HandedAhead) (order output :
   spent_after e = (
     [],
     omega arith,
-    subst (λ (l : List ℕ). StandsAhead left input (with_got ran nth got) l output) (sym (append-nil order))
+    subst (λ (l : List ℕ). StandsAhead limit left input (with_got ran nth got) l output) (sym (append-nil order))
         (given_stands left order refl refl refl
         (subst (λ (p : Phase). IsInAhead p s.cfg s.desk stood.bodies now) (sym e) tt)
         (given_order first later there.it call there.has_call got order order_was)
         (subst (λ (p : Phase). HasEach p now order) (sym e) tt)
+        (subst (λ (p : Phase). AreCounted limit p left.out (length s.waiting.frames) now order) (sym e) still_few)
         kept_shown),
   )
 
@@ -306,13 +339,13 @@ module _ (s : State) (input : List ℕ) (ran : List HandedAhead) (order output :
   by_phase (Refused fault) e is = absurd (not_empty there.before there.after there.it (sym (ap (λ (g : Greeting). asks_after g []) is.2) ∙ sym (ap asks is.1) ∙ there.asked_are))
   by_phase OutOfMemory e is = spent_after e
 
-  pub answered_stands_ahead : (more : List ℕ) × (length more ≤ 1) × StandsAhead (answered_nth s nth got) input (with_got ran nth got) (order ++ more) output
+  pub answered_stands_ahead : (more : List ℕ) × (length more ≤ 1) × StandsAhead limit (answered_nth s nth got) input (with_got ran nth got) (order ++ more) output
   answered_stands_ahead = subst After (sym answered_is) (by_phase s.phase refl stood.phase)
 
 -- ---- out of memory
 
-spent_stands_ahead : (s new : State) (input : List ℕ) (ran : List HandedAhead) (order output : List ℕ) → IsSpent s new s.out → StandsAhead s input ran order output → StandsAhead new input ran order output
-spent_stands_ahead s new input ran order output spent stood = record {
+spent_stands_ahead : (limit : ℕ) (s new : State) (input : List ℕ) (ran : List HandedAhead) (order output : List ℕ) → IsSpent s new s.out → StandsAhead limit s input ran order output → StandsAhead limit new input ran order output
+spent_stands_ahead limit s new input ran order output spent stood = record {
   bodies = stood.bodies;
   read = subst (λ (t : Stream). HandedOut client t input stood.bodies) (sym spent.stream) stood.read;
   are_bytes = subst (λ (t : Stream). AreBytes t.rest) (sym spent.stream) stood.are_bytes;
@@ -322,13 +355,16 @@ spent_stands_ahead s new input ran order output spent stood = record {
   phase = subst (λ (p : Phase). IsInAhead p new.cfg new.desk stood.bodies (dealt_ahead (asks stood.bodies) (given_so_far ran))) (sym spent.phase) tt;
   alone = stood.alone;
   order_is = stood.order_is;
+  counted = subst (λ (p : Phase). AreCounted limit p new.out (length new.waiting.frames) (dealt_ahead (asks stood.bodies) (given_so_far ran)) order) (sym spent.phase)
+      (subst (λ (w : Waiting). length (dealt_ahead (asks stood.bodies) (given_so_far ran)) + length w.frames ≤ length order + limit) (sym spent.waiting)
+      (few_missing limit s.phase s.out (length s.waiting.frames) (dealt_ahead (asks stood.bodies) (given_so_far ran)) order stood.counted));
   each = subst (λ (p : Phase). HasEach p (dealt_ahead (asks stood.bodies) (given_so_far ran)) order) (sym spent.phase) tt;
-  shows = ap (λ (w : Waiting). output ++ bytes_left w) spent.waiting ∙ stood.shows
-      ∙ ap (λ (c : SessionCfg). joined (out_ahead c stood.bodies (dealt_ahead (asks stood.bodies) (given_so_far ran)) order)) (sym spent.cfg);
+  shows = subst (λ (w : Waiting). ShowsSoFar (out_ahead new.cfg stood.bodies (dealt_ahead (asks stood.bodies) (given_so_far ran)) order) w output) (sym spent.waiting)
+      (subst (λ (c : SessionCfg). ShowsSoFar (out_ahead c stood.bodies (dealt_ahead (asks stood.bodies) (given_so_far ran)) order) s.waiting output) (sym spent.cfg) stood.shows);
 }
 
-pub lack_stands_ahead : (s new : State) (input : List ℕ) (ran : List HandedAhead) (order output : List ℕ) → Lacks s new → StandsAhead s input ran order output → StandsAhead new input ran order output
-lack_stands_ahead s new input ran order output lacks stood = elim lacks.left [
-  | inl same ↦ subst (λ (n : State). StandsAhead n input ran order output) (sym same) stood
-  | inr spent ↦ spent_stands_ahead s new input ran order output spent stood
+pub lack_stands_ahead : (limit : ℕ) (s new : State) (input : List ℕ) (ran : List HandedAhead) (order output : List ℕ) → Lacks s new → StandsAhead limit s input ran order output → StandsAhead limit new input ran order output
+lack_stands_ahead limit s new input ran order output lacks stood = elim lacks.left [
+  | inl same ↦ subst (λ (n : State). StandsAhead limit n input ran order output) (sym same) stood
+  | inr spent ↦ spent_stands_ahead limit s new input ran order output spent stood
 ]

@@ -1,5 +1,5 @@
 -- Reading the hello keeps what a session stands for whose calls are answered in any order.
-use Rattle.std.proofs.Common.{◌≡◌, ℕ, ◌+◌, List, [], ◌∷◌, ◌++◌, Ok, Err, refl, sym, ap, ◌∙◌, subst}
+use Rattle.std.proofs.Common.{◌≡◌, ℕ, List, [], ◌∷◌, ◌++◌, Ok, Err, refl, sym, ap, ◌∙◌, subst, arith, ◌+◌, ◌<◌, ◌≤◌, length}
 use Rattle.ig_base.specs.Numbers.{AreBytes}
 use Rattle.ig_base.specs.Frames.{client, least_after}
 use Rattle.ig_wire.specs.declared.hello.Hello.{Hello}
@@ -11,20 +11,20 @@ use Rattle.ig_deals.specs.Asks.{Asked, asks}
 use Rattle.ig_deals.specs.Deals.{Deal, calls}
 use Rattle.ig_deals.specs.Desk.{Desk, fresh_desk}
 use Rattle.ig_deals.specs.Telling.{crew_manner}
-use Rattle.ig_deals.specs.Serves.{joined}
-use Rattle.ig_replies.specs.Showing.{Waiting, bytes_left, after_push}
+use Rattle.ig_replies.specs.Showing.{Waiting, after_push}
 use Rattle.ig_session.specs.declared.phase.Phase.{Phase}
 use Rattle.ig_session.specs.declared.phase.Phase.TheVariants.{BeforeHello}
 use Rattle.ig_session.specs.States.{State}
 use Rattle.ig_session.specs.Soundness.{IsSound}
 use Rattle.ig_session.specs.Comings.{Greets, coming}
-use Rattle.ig_session.specs.Steps.{passed, greeting_frame, opened, refused, handed_out}
-use Rattle.ig_session.specs.StandsAhead.{HandedAhead, given_so_far, dealt_ahead, out_among, IsOrder, HasEach, frames_ahead, out_ahead, IsInAhead, StandsAhead}
-use Rattle.ig_session.proofs.ComingLemmas.{HelloIn, hello_comes}
-use Rattle.ig_session.proofs.StandLemmas.{Reads, reads_body}
+use Rattle.ig_session.specs.Steps.{passed, greeting_frame, opened, refused}
+use Rattle.ig_session.specs.StandsFor.{ShowsSoFar}
+use Rattle.ig_session.specs.StandsAhead.{HandedAhead, given_so_far, dealt_ahead, out_among, IsOrder, HasEach, AreCounted, frames_ahead, out_ahead, IsInAhead, StandsAhead}
+use Rattle.ig_session.proofs.ComingLemmas.{comes_as, HelloIn, hello_comes}
+use Rattle.ig_session.proofs.StandLemmas.{Reads, reads_body, push_alone}
 use Rattle.ig_session.proofs.GreetLemmas.{hello_asks}
 use Rattle.ig_session.proofs.AheadLemmas.{one_more_shown}
-use Rattle.ig_session.proofs.StandsByLemmas.{stands_by}
+use Rattle.ig_session.proofs.StandsByLemmas.{counted_in, stands_by}
 
 -- ---- the hello
 
@@ -35,7 +35,7 @@ no_order : (order : List ℕ) → IsOrder [] order → order ≡ []
 no_order [] is = refl
 no_order (place ∷ order) is = absurd is.0.due
 
-module _ (s : State) (input : List ℕ) (ran : List HandedAhead) (order output : List ℕ) (greeting : Greeting) (sound : IsSound s) (comes : coming s ≡ Greets greeting) (stood : StandsAhead s input ran order output) where
+module _ (limit : ℕ) (s : State) (input : List ℕ) (ran : List HandedAhead) (order output : List ℕ) (greeting : Greeting) (sound : IsSound s) (comes : coming s ≡ Greets greeting) (room : length s.out < limit) (stood : StandsAhead limit s input ran order output) where
   abbrev at : HelloIn s s.phase greeting
   at = hello_comes s greeting comes
 
@@ -56,18 +56,25 @@ module _ (s : State) (input : List ℕ) (ran : List HandedAhead) (order output :
   none_ordered = no_order order (subst (λ (l : List Deal). IsOrder l order) none_dealt stood.order_is)
 
   -- nothing was shown before, and the reply to the hello is all that is shown now
-  shows : output ++ bytes_left (after_push s.waiting (greeting_frame s.cfg greeting)) ≡ joined (out_ahead s.cfg (at.body ∷ []) [] order)
+  shows : ShowsSoFar (out_ahead s.cfg (at.body ∷ []) [] order) (after_push s.waiting (greeting_frame s.cfg greeting)) output
   shows = one_more_shown [] (out_ahead s.cfg (at.body ∷ []) [] order) s.waiting (greeting_frame s.cfg greeting) output
       (ap (out_ahead s.cfg (at.body ∷ []) []) none_ordered ∙ hello_alone (greeting_of at.body) ∙ ap (λ (g : Greeting). greeting_frame s.cfg g ∷ []) at.greets)
-      (stood.shows ∙ ap (λ (l : List (List ℕ)). joined (out_ahead s.cfg l (dealt_ahead (asks stood.bodies) (given_so_far ran)) order)) before.0) where
+      (subst (λ (l : List (List ℕ)). ShowsSoFar (out_ahead s.cfg l (dealt_ahead (asks stood.bodies) (given_so_far ran)) order) s.waiting output) before.0 stood.shows) where
         hello_alone : (g : Greeting) → hello_frame s.cfg at.body ∷ frames_ahead s.cfg g [] [] ≡ hello_frame s.cfg at.body ∷ []
         hello_alone (Ok accepted) = refl
         hello_alone (Err fault) = refl
 
+  -- the reply to the hello is the only one that waits
+  counted_now : (frame : List ℕ) → (0 ≡ length order + length s.out) × (length s.out + length (after_push s.waiting frame).frames ≤ limit)
+  counted_now frame =
+      let before_it = counted_in limit s.phase s.out (length s.waiting.frames) (dealt_ahead (asks stood.bodies) (given_so_far ran)) order at.before stood.counted in
+      let alone : length (after_push s.waiting frame).frames ≡ 1 = push_alone s.waiting frame (comes_as s (Greets greeting) (λ never. cc) comes).none_waits in
+      (ap length (sym none_dealt) ∙ before_it.0, omega (arith, room, alone))
+
   -- whichever phase the hello leads to
   greeted_stands : (now : State) → now.stream ≡ (passed s).stream → now.out ≡ s.out → now.handed ≡ s.handed → now.cfg ≡ s.cfg → now.waiting ≡ after_push s.waiting (greeting_frame s.cfg greeting)
-      → IsInAhead now.phase now.cfg now.desk (at.body ∷ []) [] → HasEach now.phase [] order → StandsAhead now input ran order output
-  greeted_stands now stream out handed cfg waiting phase each = stands_by now input ran order output (at.body ∷ []) [] (record {
+      → IsInAhead now.phase now.cfg now.desk (at.body ∷ []) [] → HasEach now.phase [] order → AreCounted limit now.phase now.out (length now.waiting.frames) [] order → StandsAhead limit now input ran order output
+  greeted_stands now stream out handed cfg waiting phase each counted = stands_by limit now input ran order output (at.body ∷ []) [] (record {
     read = subst (λ (t : Stream). HandedOut client t input (at.body ∷ [])) (sym stream) reads.read;
     are_bytes = subst (λ (t : Stream). AreBytes t.rest) (sym stream) reads.are_bytes;
     handed = stood.handed_out ∙ ap (λ (l : List (List ℕ)). calls (asks l)) before.0 ∙ ap calls (sym none_asked);
@@ -78,13 +85,15 @@ module _ (s : State) (input : List ℕ) (ran : List HandedAhead) (order output :
     alone = λ first later deal e looks due. absurd (no_deal first later deal e);
     order_is = subst (λ (l : List Deal). IsOrder l order) none_dealt stood.order_is;
     each = each;
-    shows = ap (λ (w : Waiting). output ++ bytes_left w) waiting ∙ shows ∙ ap (λ (c : SessionCfg). joined (out_ahead c (at.body ∷ []) [] order)) (sym cfg);
+    counted = counted;
+    shows = subst (λ (w : Waiting). ShowsSoFar (out_ahead now.cfg (at.body ∷ []) [] order) w output) (sym waiting)
+        (subst (λ (c : SessionCfg). ShowsSoFar (out_ahead c (at.body ∷ []) [] order) (after_push s.waiting (greeting_frame s.cfg greeting)) output) (sym cfg) shows);
   }) where
     no_deal : (first later : List Deal) (deal : Deal) → [] ≡ first ++ deal ∷ later → ⊥
     no_deal [] later deal e = cc
     no_deal (d ∷ first) later deal e = cc
 
-  pub opened_stands_ahead : (accepted : Hello) → greeting ≡ Ok accepted → StandsAhead (opened accepted.version (crew_manner accepted.version) s) input ran order output
+  pub opened_stands_ahead : (accepted : Hello) → greeting ≡ Ok accepted → StandsAhead limit (opened accepted.version (crew_manner accepted.version) s) input ran order output
   opened_stands_ahead accepted is = greeted_stands (opened accepted.version (crew_manner accepted.version) s) refl refl refl refl
       (ap (λ (g : Greeting). after_push s.waiting (greeting_frame s.cfg g)) (sym is)) (record {
         hello = at.body;
@@ -94,8 +103,8 @@ module _ (s : State) (input : List ℕ) (ran : List HandedAhead) (order output :
         greets = at.greets ∙ is;
         terms_are = refl;
         desk_is = before.1;
-      }) (λ place due. absurd due)
+      }) (λ place due. absurd due) (counted_now (greeting_frame s.cfg (Ok accepted)))
 
-  pub refused_stands_ahead : (fault : HelloFault) → greeting ≡ Err fault → StandsAhead (refused fault s) input ran order output
+  pub refused_stands_ahead : (fault : HelloFault) → greeting ≡ Err fault → StandsAhead limit (refused fault s) input ran order output
   refused_stands_ahead fault is = greeted_stands (refused fault s) refl refl refl refl
-      (ap (λ (g : Greeting). after_push s.waiting (greeting_frame s.cfg g)) (sym is)) (at.body, refl, at.greets ∙ is) (λ place due. absurd due)
+      (ap (λ (g : Greeting). after_push s.waiting (greeting_frame s.cfg g)) (sym is)) (at.body, refl, at.greets ∙ is) (λ place due. absurd due) (counted_now (greeting_frame s.cfg (Err fault)))

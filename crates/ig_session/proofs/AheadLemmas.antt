@@ -1,5 +1,5 @@
 -- What each step keeps of what a session stands for whose calls are answered in any order: the input and the output.
-use Rattle.std.proofs.Common.{◌≡◌, ◌≢◌, inl, inr, ℕ, zero, suc, ◌+◌, ◌<◌, ◌≤◌, List, [], ◌∷◌, ◌++◌, map, length, take, drop, Option, None, Some, Result, Ok, Err, refl, sym, ap, ◌∙◌, subst, arith, append-nil, append_assoc}
+use Rattle.std.proofs.Common.{◌≡◌, inl, inr, ℕ, ◌+◌, ◌<◌, ◌≤◌, List, [], ◌∷◌, ◌++◌, map, length, take, drop, Option, Some, Ok, Err, refl, sym, ap, ◌∙◌, subst, length-append, arith, append-nil, append_assoc}
 use Rattle.std.specs.Prelude.{Contains, slice_get, min, nat_lt}
 use Rattle.std.proofs.lemmas.Bool.{le-ltb, lt-ltb, cond-true, cond-false, cases_lt}
 use Rattle.std.proofs.lemmas.List.{length-map, length-take, length-drop, take-take, take_all, take-append-drop, drop-drop, map-append}
@@ -8,28 +8,28 @@ use Rattle.ig_base.specs.Frames.{client}
 use Rattle.ig_base.proofs.FrameLemmas.{Begins-start, Begins-more, append_bytes}
 use Rattle.ig_wire.specs.declared.version.Version.{Version}
 use Rattle.ig_wire.specs.declared.hello.Hello.{Hello}
-use Rattle.ig_frame.specs.Streams.{Stream, HandedOut}
 use Rattle.ig_deals.specs.declared.cfg.SessionCfg.{SessionCfg}
-use Rattle.ig_deals.specs.declared.manner.Manner.TheVariants.{AtChanges}
 use Rattle.ig_deals.specs.Hellos.{Greeting, greeting_of, hello_frame}
-use Rattle.ig_deals.specs.Asks.{Asked}
+use Rattle.ig_deals.specs.Asks.{Asked, asks}
 use Rattle.ig_deals.specs.Deals.{Got, Deal}
 use Rattle.ig_deals.specs.Desk.{Desk, fresh_desk}
 use Rattle.ig_deals.specs.Telling.{crew_manner}
-use Rattle.ig_deals.specs.Replies.{Reply, reply_frame}
+use Rattle.ig_deals.specs.Replies.{reply_frame}
 use Rattle.ig_deals.specs.Turns.{Terms, turn}
 use Rattle.ig_deals.specs.OutFrames.{replies, desk_after, reply_frames, terms_at}
-use Rattle.ig_deals.specs.Pieces.{piece_left, piece_at}
-use Rattle.ig_deals.specs.Serves.{joined}
 use Rattle.ig_deals.specs.Laws.{IsApart}
 use Rattle.ig_deals.proofs.ApartLemmas.{own_reply}
-use Rattle.ig_deals.proofs.ReplyLemmas.{replies-append, reply_frames-append}
-use Rattle.ig_replies.specs.Showing.{Waiting, left_of, bytes_left, piece_of, piece_shown, frames_when, after_gone, frames_and, after_push}
+use Rattle.ig_deals.proofs.ReplyLemmas.{reply_frames-append}
+use Rattle.ig_replies.specs.Showing.{Waiting, piece_shown, after_gone, frames_and, after_push}
+use Rattle.ig_session.specs.declared.phase.Phase.{Phase}
+use Rattle.ig_session.specs.declared.phase.Phase.TheVariants.{BeforeHello, Open, Refused, OutOfMemory}
+use Rattle.ig_session.specs.declared.awaited.Awaited.{Awaited}
 use Rattle.ig_session.specs.States.{State, new_state}
 use Rattle.ig_session.specs.Steps.{fed, written}
-use Rattle.ig_session.specs.StandsAhead.{HandedAhead, IsDue, in_order, frames_ahead, out_ahead, StandsAhead}
-use Rattle.ig_session.proofs.StandLemmas.{joined-append}
-use Rattle.ig_session.proofs.ApartLemmas.{desk_apart, crew_tells}
+use Rattle.ig_session.specs.StandsFor.{ShowsSoFar}
+use Rattle.ig_session.specs.StandsAhead.{HandedAhead, given_so_far, dealt_ahead, IsDue, AreCounted, in_order, frames_ahead, out_ahead, StandsAhead}
+use Rattle.ig_session.proofs.WriteLemmas.{written_shows, fewer_wait}
+use Rattle.ig_session.proofs.ApartLemmas.{crew_tells}
 use Rattle.ig_session.proofs.PlaceLemmas.{at_end, at_other, at_first, in_order_same, in_order_more}
 
 -- ---- the input
@@ -41,8 +41,8 @@ no_deal (first ∷ before) after deal e = cc
 no_due : (place : ℕ) → IsDue (slice_get [] place) → ⊥
 no_due place due = due
 
-pub new_stands_ahead : (cfg : SessionCfg) → StandsAhead (new_state cfg) [] [] [] []
-new_stands_ahead cfg = record {
+pub new_stands_ahead : (limit : ℕ) (cfg : SessionCfg) → StandsAhead limit (new_state cfg) [] [] [] []
+new_stands_ahead limit cfg = record {
   bodies = [];
   read = record { begins = Begins-start client []; place = refl };
   are_bytes = λ i. omega arith;
@@ -53,12 +53,13 @@ new_stands_ahead cfg = record {
   alone = λ before after deal e looks due. absurd (no_deal before after deal e);
   order_is = tt;
   each = λ place due. absurd (no_due place due);
-  shows = refl;
+  counted = (omega arith, omega arith);
+  shows = record { shown = []; frames_are = refl; output_is = refl };
 }
 
-pub fed_stands_ahead : (s : State) (input piece : List ℕ) (ran : List HandedAhead) (order output : List ℕ) → AreBytes piece
-    → StandsAhead s input ran order output → StandsAhead (fed s piece) (input ++ piece) ran order output
-fed_stands_ahead s input piece ran order output are stood = record {
+pub fed_stands_ahead : (limit : ℕ) (s : State) (input piece : List ℕ) (ran : List HandedAhead) (order output : List ℕ) → AreBytes piece
+    → StandsAhead limit s input ran order output → StandsAhead limit (fed s piece) (input ++ piece) ran order output
+fed_stands_ahead limit s input piece ran order output are stood = record {
   bodies = stood.bodies;
   read = record { begins = Begins-more stood.read.begins piece; place = stood.read.place };
   are_bytes = append_bytes s.stream.rest piece stood.are_bytes are;
@@ -69,40 +70,22 @@ fed_stands_ahead s input piece ran order output are stood = record {
   alone = stood.alone;
   order_is = stood.order_is;
   each = stood.each;
+  counted = stood.counted;
   shows = stood.shows;
 }
 
 -- ---- what is written
 
--- the bytes that are left when some of the piece that is shown are gone
-left_when : (frames : List (List ℕ)) (gone n : ℕ) → n ≤ length (piece_of frames gone) → take n (piece_of frames gone) ++ bytes_left (frames_when frames (gone + n)) ≡ left_of frames gone
-left_when [] gone n le = append-nil (take n []) ∙ take_all n [] (omega arith)
-left_when (frame ∷ others) gone n le =
-    let len : length (piece_at frame gone) ≡ min (piece_left gone) (length (drop gone frame)) = length-take (piece_left gone) (drop gone frame) in
-    let piece : take n (piece_at frame gone) ≡ take n (drop gone frame) = take-take n (piece_left gone) (drop gone frame) (omega (arith, len, le)) in
-    elim (cases_lt (gone + n) (length frame)) [
-      | inl less ↦
-          let stays = cond-true (nat_lt (gone + n) (length frame)) (record { frames = frame ∷ others; gone = gone + n }) (record { frames = others; gone = 0 }) (lt-ltb (gone + n) (length frame) less) in
-          ap (λ (w : Waiting). take n (piece_at frame gone) ++ bytes_left w) stays
-          ∙ ap (λ (l : List ℕ). l ++ (drop (gone + n) frame ++ joined others)) piece
-          ∙ sym (append_assoc (take n (drop gone frame)) (drop (gone + n) frame) (joined others))
-          ∙ ap (λ (l : List ℕ). l ++ joined others) (
-          ap (λ (l : List ℕ). take n (drop gone frame) ++ l) (sym (drop-drop n gone frame))
-          ∙ take-append-drop n (drop gone frame)
-          )
-      | inr over ↦
-          let goes = cond-false (nat_lt (gone + n) (length frame)) (record { frames = frame ∷ others; gone = gone + n }) (record { frames = others; gone = 0 }) (le-ltb (gone + n) (length frame) over) in
-          ap (λ (w : Waiting). take n (piece_at frame gone) ++ bytes_left w) goes
-          ∙ ap (λ (l : List ℕ). l ++ left_of others 0) (piece ∙ take_all n (drop gone frame) (omega (arith, over, length-drop gone frame)))
-          ∙ ap (λ (l : List ℕ). drop gone frame ++ l) (none_gone others)
-    ] where
-      none_gone : (l : List (List ℕ)) → left_of l 0 ≡ joined l
-      none_gone [] = refl
-      none_gone (f ∷ l) = refl
+-- no more frames wait than before
+counted_fewer : (limit : ℕ) (phase : Phase) (out : List Awaited) (before now : ℕ) (deals : List Deal) (order : List ℕ) → now ≤ before → AreCounted limit phase out before deals order → AreCounted limit phase out now deals order
+counted_fewer limit BeforeHello out before now deals order le h = (h.0, omega (arith, h.1, le))
+counted_fewer limit (Open terms) out before now deals order le h = (h.0, omega (arith, h.1, le))
+counted_fewer limit (Refused fault) out before now deals order le h = (h.0, omega (arith, h.1, le))
+counted_fewer limit OutOfMemory out before now deals order le h = omega (arith, h, le)
 
-pub written_stands_ahead : (s : State) (input : List ℕ) (ran : List HandedAhead) (order output : List ℕ) (n : ℕ) → n ≤ length (piece_shown s.waiting)
-    → StandsAhead s input ran order output → StandsAhead (written s n) input ran order (output ++ take n (piece_shown s.waiting))
-written_stands_ahead s input ran order output n le stood = record {
+pub written_stands_ahead : (limit : ℕ) (s : State) (input : List ℕ) (ran : List HandedAhead) (order output : List ℕ) (n : ℕ) → n ≤ length (piece_shown s.waiting)
+    → StandsAhead limit s input ran order output → StandsAhead limit (written s n) input ran order (output ++ take n (piece_shown s.waiting))
+written_stands_ahead limit s input ran order output n le stood = record {
   bodies = stood.bodies;
   read = stood.read;
   are_bytes = stood.are_bytes;
@@ -113,23 +96,34 @@ written_stands_ahead s input ran order output n le stood = record {
   alone = stood.alone;
   order_is = stood.order_is;
   each = stood.each;
-  shows = append_assoc output (take n (piece_shown s.waiting)) (bytes_left (after_gone s.waiting n))
-      ∙ ap (λ (l : List ℕ). output ++ l) (left_when s.waiting.frames s.waiting.gone n le) ∙ stood.shows;
+  counted = counted_fewer limit s.phase s.out (length s.waiting.frames) (length (after_gone s.waiting n).frames) (dealt_ahead (asks stood.bodies) (given_so_far ran)) order
+      (fewer_wait s.waiting.frames (s.waiting.gone + n)) stood.counted;
+  shows = written_shows (out_ahead s.cfg stood.bodies (dealt_ahead (asks stood.bodies) (given_so_far ran)) order) s.waiting.frames s.waiting.gone n output le stood.shows;
 }
 
--- a frame that waits after the others
-left_and : (frames : List (List ℕ)) (gone : ℕ) (frame : List ℕ) → bytes_left (frames_and frames gone frame) ≡ left_of frames gone ++ frame
-left_and [] gone frame = append-nil frame
-left_and (first ∷ frames) gone frame =
-    ap (λ (l : List ℕ). drop gone first ++ l) (joined-append frames (frame ∷ []) ∙ ap (λ (l : List ℕ). joined frames ++ l) (append-nil frame))
-    ∙ sym (append_assoc (drop gone first) (joined frames) frame)
+-- a frame waits after the others
+pushed : (frames waiting : List (List ℕ)) (gone : ℕ) (frame output : List ℕ) → ShowsSoFar frames (record { frames = waiting; gone = gone }) output → ShowsSoFar (frames ++ frame ∷ []) (frames_and waiting gone frame) output
+pushed frames [] gone frame output so = record {
+  shown = so.shown;
+  frames_are = ap (λ (l : List (List ℕ)). l ++ frame ∷ []) (so.frames_are ∙ append-nil so.shown);
+  output_is = so.output_is;
+}
+pushed frames (first ∷ others) gone frame output so = record {
+  shown = so.shown;
+  frames_are = ap (λ (l : List (List ℕ)). l ++ frame ∷ []) so.frames_are ∙ append_assoc so.shown (first ∷ others) (frame ∷ []);
+  output_is = so.output_is;
+}
 
 -- one more frame is shown
-pub one_more_shown : (frames more : List (List ℕ)) (w : Waiting) (frame output : List ℕ) → more ≡ frames ++ frame ∷ [] → output ++ bytes_left w ≡ joined frames
-    → output ++ bytes_left (after_push w frame) ≡ joined more
-one_more_shown frames more w frame output e so =
-    ap (λ (l : List ℕ). output ++ l) (left_and w.frames w.gone frame) ∙ sym (append_assoc output (bytes_left w) frame) ∙ ap (λ (l : List ℕ). l ++ frame) so
-    ∙ sym (ap joined e ∙ joined-append frames (frame ∷ []) ∙ ap (λ (l : List ℕ). joined frames ++ l) (append-nil frame))
+pub one_more_shown : (frames more : List (List ℕ)) (w : Waiting) (frame output : List ℕ) → more ≡ frames ++ frame ∷ [] → ShowsSoFar frames w output → ShowsSoFar more (after_push w frame) output
+one_more_shown frames more w frame output e so = subst (λ (l : List (List ℕ)). ShowsSoFar l (after_push w frame) output) (sym e) (pushed frames w.frames w.gone frame output so)
+
+-- and one more waits
+pub one_more_waits : (w : Waiting) (frame : List ℕ) → length (after_push w frame).frames ≡ length w.frames + 1
+one_more_waits w frame = by w.frames where
+  by : (frames : List (List ℕ)) → length (frames_and frames w.gone frame).frames ≡ length frames + 1
+  by [] = refl
+  by (first ∷ frames) = omega (arith, length-append frames (frame ∷ []))
 
 -- ---- the frames of replies
 

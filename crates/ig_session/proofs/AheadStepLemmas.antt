@@ -1,5 +1,5 @@
 -- One step keeps what a session stands for whose calls are answered in any order.
-use Rattle.std.proofs.Common.{◌≡◌, inl, inr, ℕ, ◌+◌, ◌≤◌, List, [], ◌∷◌, ◌++◌, length, Option, None, Some, Result, Ok, Err, refl, sym, ap, ◌∙◌, subst, arith, append-nil, length-append}
+use Rattle.std.proofs.Common.{◌≡◌, inl, inr, ℕ, ◌+◌, ◌≤◌, List, [], ◌∷◌, ◌++◌, length, Option, None, Some, Result, Ok, Err, refl, sym, ap, ◌∙◌, subst, arith, append-nil, length-append, ◌<◌, leb-false}
 use Rattle.std.specs.Prelude.{◌&&◌, Bool, true, false, Contains, slice_get, nat_le, if◌then◌else◌}
 use Rattle.std.specs.List.{cons_option, list_any}
 use Rattle.std.proofs.lemmas.List.{length-map, map-append}
@@ -16,11 +16,11 @@ use Rattle.ig_deals.specs.Telling.{crew_manner}
 use Rattle.ig_deals.specs.Replies.{reply_frame}
 use Rattle.ig_deals.specs.Turns.{Terms, Turn, turn_for, turn}
 use Rattle.ig_deals.specs.OutFrames.{desk_after}
-use Rattle.ig_deals.specs.Serves.{joined}
 use Rattle.ig_deals.proofs.DealLemmas.{calls-append}
 use Rattle.ig_deals.proofs.ReplyLemmas.{replies-append}
 use Rattle.ig_replies.specs.declared.terms.Terms.{Terms as HeldTerms}
 use Rattle.ig_replies.specs.RunTerms.{terms_of}
+use Rattle.ig_replies.specs.Showing.{after_push}
 use Rattle.ig_session.specs.declared.phase.Phase.TheVariants.{Open}
 use Rattle.ig_session.specs.declared.step.Ahead.TheVariants as steps
 use Rattle.ig_session.specs.declared.awaited.Awaited.{Awaited}
@@ -29,17 +29,18 @@ use Rattle.ig_session.specs.States.{State}
 use Rattle.ig_session.specs.Soundness.{IsSound}
 use Rattle.ig_session.specs.Comings.{Coming, Replies, Stops, Misses, Greets, Asks, coming}
 use Rattle.ig_session.specs.Steps.{opened, refused, handed_out, settled}
-use Rattle.ig_session.specs.StepsAhead.{is_at_cursors, has_out, is_full, is_held_up, asked_ahead, step_on, step_ahead_to, step_ahead}
+use Rattle.ig_session.specs.StandsFor.{ShowsSoFar}
+use Rattle.ig_session.specs.StepsAhead.{is_at_cursors, waits_for_all, has_out, is_full, is_held_up, asked_ahead, step_on, step_ahead_to, step_ahead}
 use Rattle.ig_session.specs.StandsAhead.{HandedAhead, given_so_far, deal_ahead, dealt_ahead, out_among, is_due, IsDue, LooksAtCursors, IsOrder, AreScansAlone, out_ahead, IsOpenAhead, StandsAhead}
 use Rattle.ig_session.specs.LawsAhead.{StandsAfterAhead}
-use Rattle.ig_session.proofs.ComingLemmas.{RequestIn, request_comes}
-use Rattle.ig_session.proofs.StandLemmas.{Reads, reads_body, asks_one}
+use Rattle.ig_session.proofs.ComingLemmas.{comes_as, RequestIn, request_comes}
+use Rattle.ig_session.proofs.StandLemmas.{Reads, reads_body, push_alone, asks_one}
 use Rattle.ig_session.proofs.AskLemmas.{least_open}
 use Rattle.ig_session.proofs.PlaceLemmas.{at_end, at_first, due_in, due_within, order_more, order_for, still_due}
 use Rattle.ig_session.proofs.OutLemmas.{dealt_ahead-append, given_ahead, calls_dealt, calls_among, out_among-append, out_one, out_none}
 use Rattle.ig_session.proofs.AheadLemmas.{ahead_terms, frames_at, frames_first, frame_last, one_more_shown, open_shown, open_shown_more, same_shown}
 use Rattle.ig_session.proofs.DueLemmas.{neither, first_false, none_out, all_due, due_push, no_scan_out, at_last}
-use Rattle.ig_session.proofs.StandsByLemmas.{StandsBy, stands_by, open_in_ahead, in_open_ahead, each_open, open_each}
+use Rattle.ig_session.proofs.StandsByLemmas.{counted_open, open_counted, stands_by, open_in_ahead, in_open_ahead, each_open, open_each}
 use Rattle.ig_session.proofs.AheadGreetLemmas.{opened_stands_ahead, refused_stands_ahead}
 
 -- ---- requests
@@ -55,7 +56,12 @@ none_given terms desk asked call is = by_request asked.request is where
   by_request (Ok (Close resource)) is = absurd cc
   by_request (Err fault) is = absurd cc
 
-module _ (s : State) (input : List ℕ) (ran : List HandedAhead) (order output : List ℕ) (limit : ℕ) (terms : HeldTerms) (asked : Asked) (sound : IsSound s) (comes : coming s ≡ Asks terms asked) (held : is_held_up limit s.out (Asks terms asked) ≡ false) (stood : StandsAhead s input ran order output) where
+-- what isn't held up has room for one more call
+room_left : (limit : ℕ) (out : List Awaited) (next : Coming) → is_held_up limit out next ≡ false → length out < limit
+room_left limit out next held =
+    leb-false limit (length out) (neither (nat_le limit (length out)) (list_any (λ (a : Awaited). is_scan a.awaits) out) (neither (is_full limit out) (has_out out && waits_for_all next) held).0).0
+
+module _ (s : State) (input : List ℕ) (ran : List HandedAhead) (order output : List ℕ) (limit : ℕ) (terms : HeldTerms) (asked : Asked) (sound : IsSound s) (comes : coming s ≡ Asks terms asked) (held : is_held_up limit s.out (Asks terms asked) ≡ false) (stood : StandsAhead limit s input ran order output) where
   abbrev at : RequestIn s s.phase terms asked
   at = request_comes s terms asked comes
 
@@ -74,6 +80,16 @@ module _ (s : State) (input : List ℕ) (ran : List HandedAhead) (order output :
 
   none : is_at_cursors asked.request ≡ true → s.out ≡ []
   none looks = none_out s.out (first_false (has_out s.out) (is_at_cursors asked.request) (neither (is_full limit s.out) (has_out s.out && is_at_cursors asked.request) held).1 looks)
+
+  may_go : length s.out < limit
+  may_go = room_left limit s.out (Asks terms asked) held
+
+  counts : length deals ≡ length order + length s.out
+  counts = (counted_open limit s.phase terms s.out (length s.waiting.frames) deals order at.is_open stood.counted).0
+
+  -- no reply waits
+  idle : s.waiting.frames ≡ []
+  idle = (comes_as s (Asks terms asked) (λ never. cc) comes).none_waits
 
   abbrev bodies : List (List ℕ)
   bodies = stood.bodies ++ at.body ∷ []
@@ -120,7 +136,7 @@ module _ (s : State) (input : List ℕ) (ran : List HandedAhead) (order output :
 
   -- the call is out, after the others
   pub handed_stands_ahead : (call : Call) → call_for asked.request ≡ Some call
-      → (s.handed ≡ length ran) × StandsAhead (handed_out s asked) input (ran ++ record { call = call; got = None } ∷ []) order output
+      → (s.handed ≡ length ran) × StandsAhead limit (handed_out s asked) input (ran ++ record { call = call; got = None } ∷ []) order output
   handed_stands_ahead call is =
       let given : given_so_far (ran ++ record { call = call; got = None } ∷ []) ≡ given_so_far ran ++ None ∷ [] = map-append (λ (r : HandedAhead). r.got) ran (record { call = call; got = None } ∷ []) in
       let dealt : dealt_ahead (asks bodies) (given_so_far (ran ++ record { call = call; got = None } ∷ [])) ≡ deals ++ last ∷ [] =
@@ -131,7 +147,7 @@ module _ (s : State) (input : List ℕ) (ran : List HandedAhead) (order output :
       let from : 0 + calls_among deals ≡ calls_among deals = omega arith in
       let number : 0 + calls_among deals ≡ s.handed = from ∙ calls_dealt (asks stood.bodies) (given_so_far ran) as_many ∙ sym as_many ∙ length-map ran (λ (r : HandedAhead). r.got) ∙ sym stood.count in (
         stood.count,
-        stands_by (handed_out s asked) input (ran ++ record { call = call; got = None } ∷ []) order output bodies (deals ++ last ∷ []) (record {
+        stands_by limit (handed_out s asked) input (ran ++ record { call = call; got = None } ∷ []) order output bodies (deals ++ last ∷ []) (record {
           read = reads.read;
           are_bytes = reads.are_bytes;
           handed = map-append (λ (r : HandedAhead). r.call) ran (record { call = call; got = None } ∷ []) ∙ ap (λ (l : List Call). l ++ call ∷ []) stood.handed_out
@@ -152,16 +168,20 @@ module _ (s : State) (input : List ℕ) (ran : List HandedAhead) (order output :
           });
           alone = alone;
           order_is = order_kept;
+          counted = open_counted limit s.phase terms (s.out ++ awaited_of s.handed asked ∷ []) (length s.waiting.frames) (deals ++ last ∷ []) order at.is_open (
+            omega (arith, counts, length-append deals (last ∷ []), length-append s.out (awaited_of s.handed asked ∷ [])),
+            omega (arith, may_go, ap length idle, length-append s.out (awaited_of s.handed asked ∷ [])),
+          );
           each = open_each s.phase terms (deals ++ last ∷ []) order at.is_open (λ place due. elim (due_push deals last place due) [
             | inl before ↦ each_open s.phase terms deals order at.is_open stood.each place before
             | inr here ↦ let not_yet : is_due (Some call) None ≡ true = ap (λ (c : Option Call). is_due c None) (sym is) ∙ here.1 in absurd cc
           ]);
-          shows = stood.shows ∙ ap joined (sym kept_shown);
+          shows = subst (λ (l : List (List ℕ)). ShowsSoFar l s.waiting output) (sym kept_shown) stood.shows;
         }),
       )
 
   -- a request without a call is replied at once, after the other replies
-  pub settled_stands_ahead : call_for asked.request ≡ None → StandsAhead (settled terms s asked) input ran (order ++ length deals ∷ []) output
+  pub settled_stands_ahead : call_for asked.request ≡ None → StandsAhead limit (settled terms s asked) input ran (order ++ length deals ∷ []) output
   settled_stands_ahead is =
       let t : Turn = turn (terms_of terms) s.desk last in
       let frame : List ℕ = reply_frame terms.version t.reply in
@@ -176,7 +196,7 @@ module _ (s : State) (input : List ℕ) (ran : List HandedAhead) (order output :
       ∙ dealt_ahead-append (asks stood.bodies) (asked ∷ []) (given_so_far ran) [] as_many
       ∙ ap (λ (c : Option Call). deals ++ deal_ahead asked c [] (dealt_ahead [])) is in
       let is_last : slice_get (deals ++ last ∷ []) (length deals) ≡ Some last = at_end deals last [] in
-      stands_by (settled terms s asked) input ran (order ++ length deals ∷ []) output bodies (deals ++ last ∷ []) (record {
+      stands_by limit (settled terms s asked) input ran (order ++ length deals ∷ []) output bodies (deals ++ last ∷ []) (record {
         read = reads.read;
         are_bytes = reads.are_bytes;
         handed = stood.handed_out ∙ sym (ap calls now ∙ calls-append (asks stood.bodies) (asked ∷ []) ∙ ap (λ (c : Option Call). calls (asks stood.bodies) ++ cons_option c []) is ∙ append-nil (calls (asks stood.bodies)));
@@ -201,6 +221,8 @@ module _ (s : State) (input : List ℕ) (ran : List HandedAhead) (order output :
             λ less. each_open s.phase terms deals order at.is_open stood.each other (all_due 0 deals other (sym stood.out ∙ none (subst LooksAtCursors is_last looks)) less),
           );
         });
+        counted = open_counted limit s.phase terms s.out (length (after_push s.waiting frame).frames) (deals ++ last ∷ []) (order ++ length deals ∷ []) at.is_open
+            (omega (arith, counts, length-append deals (last ∷ []), length-append order (length deals ∷ [])), omega (arith, may_go, push_alone s.waiting frame idle));
         each = open_each s.phase terms (deals ++ last ∷ []) (order ++ length deals ∷ []) at.is_open (λ place due. elim (due_push deals last place due) [
           | inl before ↦ Contains-append_left order (length deals ∷ []) place (each_open s.phase terms deals order at.is_open stood.each place before)
           | inr here ↦ subst (λ (p : ℕ). Contains (order ++ length deals ∷ []) p) (sym here.0) (Contains-push order (length deals))
@@ -213,36 +235,36 @@ module _ (s : State) (input : List ℕ) (ran : List HandedAhead) (order output :
 
 -- ---- one step
 
-stays : (s : State) (input : List ℕ) (ran : List HandedAhead) (order output : List ℕ) → StandsAhead s input ran order output → (more : List ℕ) × (length more ≤ 1) × StandsAhead s input ran (order ++ more) output
-stays s input ran order output stood = ([], omega arith, subst (λ (l : List ℕ). StandsAhead s input ran l output) (sym (append-nil order)) stood)
+stays : (limit : ℕ) (s : State) (input : List ℕ) (ran : List HandedAhead) (order output : List ℕ) → StandsAhead limit s input ran order output → (more : List ℕ) × (length more ≤ 1) × StandsAhead limit s input ran (order ++ more) output
+stays limit s input ran order output stood = ([], omega arith, subst (λ (l : List ℕ). StandsAhead limit s input ran l output) (sym (append-nil order)) stood)
 
 asked_stands_ahead : (limit : ℕ) (s : State) (input : List ℕ) (ran : List HandedAhead) (order output : List ℕ) (terms : HeldTerms) (asked : Asked) (c : Option Call) → IsSound s → coming s ≡ Asks terms asked
-    → is_held_up limit s.out (Asks terms asked) ≡ false → StandsAhead s input ran order output → call_for asked.request ≡ c
-    → StandsAfterAhead (asked_ahead terms s asked c).0 (asked_ahead terms s asked c).1 input ran order output
+    → is_held_up limit s.out (Asks terms asked) ≡ false → StandsAhead limit s input ran order output → call_for asked.request ≡ c
+    → StandsAfterAhead limit (asked_ahead terms s asked c).0 (asked_ahead terms s asked c).1 input ran order output
 asked_stands_ahead limit s input ran order output terms asked (Some call) sound comes held stood is = handed_stands_ahead s input ran order output limit terms asked sound comes held stood call is
 asked_stands_ahead limit s input ran order output terms asked None sound comes held stood is =
     (length (dealt_ahead (asks stood.bodies) (given_so_far ran)) ∷ [], omega arith, settled_stands_ahead s input ran order output limit terms asked sound comes held stood is)
 
 on_stands : (limit : ℕ) (s : State) (input : List ℕ) (ran : List HandedAhead) (order output : List ℕ) (next : Coming) → IsSound s → coming s ≡ next → is_held_up limit s.out next ≡ false
-    → StandsAhead s input ran order output → StandsAfterAhead (step_on s next).0 (step_on s next).1 input ran order output
-on_stands limit s input ran order output Replies sound comes held stood = stays s input ran order output stood
-on_stands limit s input ran order output (Stops end) sound comes held stood = stays s input ran order output stood
-on_stands limit s input ran order output (Misses missing) sound comes held stood = stays s input ran order output stood
+    → StandsAhead limit s input ran order output → StandsAfterAhead limit (step_on s next).0 (step_on s next).1 input ran order output
+on_stands limit s input ran order output Replies sound comes held stood = stays limit s input ran order output stood
+on_stands limit s input ran order output (Stops end) sound comes held stood = stays limit s input ran order output stood
+on_stands limit s input ran order output (Misses missing) sound comes held stood = stays limit s input ran order output stood
 on_stands limit s input ran order output (Greets (Ok accepted)) sound comes held stood =
-    stays (opened accepted.version (crew_manner accepted.version) s) input ran order output (opened_stands_ahead s input ran order output (Ok accepted) sound comes stood accepted refl)
+    stays limit (opened accepted.version (crew_manner accepted.version) s) input ran order output (opened_stands_ahead limit s input ran order output (Ok accepted) sound comes (room_left limit s.out (Greets (Ok accepted)) held) stood accepted refl)
 on_stands limit s input ran order output (Greets (Err fault)) sound comes held stood =
-    stays (refused fault s) input ran order output (refused_stands_ahead s input ran order output (Err fault) sound comes stood fault refl)
+    stays limit (refused fault s) input ran order output (refused_stands_ahead limit s input ran order output (Err fault) sound comes (room_left limit s.out (Greets (Err fault)) held) stood fault refl)
 on_stands limit s input ran order output (Asks terms asked) sound comes held stood = asked_stands_ahead limit s input ran order output terms asked (call_for asked.request) sound comes held stood refl
 
 waits_or_goes : (b : Bool) (limit : ℕ) (s : State) (input : List ℕ) (ran : List HandedAhead) (order output : List ℕ) (next : Coming) → IsSound s → coming s ≡ next → is_held_up limit s.out next ≡ b
-    → StandsAhead s input ran order output → StandsAfterAhead (if b then (steps.Wait, s) else step_on s next).0 (if b then (steps.Wait, s) else step_on s next).1 input ran order output
-waits_or_goes true limit s input ran order output next sound comes held stood = stays s input ran order output stood
+    → StandsAhead limit s input ran order output → StandsAfterAhead limit (if b then (steps.Wait, s) else step_on s next).0 (if b then (steps.Wait, s) else step_on s next).1 input ran order output
+waits_or_goes true limit s input ran order output next sound comes held stood = stays limit s input ran order output stood
 waits_or_goes false limit s input ran order output next sound comes held stood = on_stands limit s input ran order output next sound comes held stood
 
-to_stands : (limit : ℕ) (s : State) (input : List ℕ) (ran : List HandedAhead) (order output : List ℕ) (next : Coming) → IsSound s → coming s ≡ next → StandsAhead s input ran order output
-    → StandsAfterAhead (step_ahead_to limit s next).0 (step_ahead_to limit s next).1 input ran order output
-to_stands limit s input ran order output Replies sound comes stood = stays s input ran order output stood
-to_stands limit s input ran order output (Stops ends.NoMemory) sound comes stood = stays s input ran order output stood
+to_stands : (limit : ℕ) (s : State) (input : List ℕ) (ran : List HandedAhead) (order output : List ℕ) (next : Coming) → IsSound s → coming s ≡ next → StandsAhead limit s input ran order output
+    → StandsAfterAhead limit (step_ahead_to limit s next).0 (step_ahead_to limit s next).1 input ran order output
+to_stands limit s input ran order output Replies sound comes stood = stays limit s input ran order output stood
+to_stands limit s input ran order output (Stops ends.NoMemory) sound comes stood = stays limit s input ran order output stood
 to_stands limit s input ran order output (Stops ends.Ended) sound comes stood = waits_or_goes (is_held_up limit s.out (Stops ends.Ended)) limit s input ran order output (Stops ends.Ended) sound comes refl stood
 to_stands limit s input ran order output (Stops (ends.Truncated n)) sound comes stood = waits_or_goes (is_held_up limit s.out (Stops (ends.Truncated n))) limit s input ran order output (Stops (ends.Truncated n)) sound comes refl stood
 to_stands limit s input ran order output (Stops (ends.BadFrame place len)) sound comes stood =
@@ -256,6 +278,6 @@ to_stands limit s input ran order output (Misses missing) sound comes stood = wa
 to_stands limit s input ran order output (Greets greeting) sound comes stood = waits_or_goes (is_held_up limit s.out (Greets greeting)) limit s input ran order output (Greets greeting) sound comes refl stood
 to_stands limit s input ran order output (Asks terms asked) sound comes stood = waits_or_goes (is_held_up limit s.out (Asks terms asked)) limit s input ran order output (Asks terms asked) sound comes refl stood
 
-pub step_stands_ahead : (limit : ℕ) (s : State) (input : List ℕ) (ran : List HandedAhead) (order output : List ℕ) → IsSound s → StandsAhead s input ran order output
-    → StandsAfterAhead (step_ahead limit s).0 (step_ahead limit s).1 input ran order output
+pub step_stands_ahead : (limit : ℕ) (s : State) (input : List ℕ) (ran : List HandedAhead) (order output : List ℕ) → IsSound s → StandsAhead limit s input ran order output
+    → StandsAfterAhead limit (step_ahead limit s).0 (step_ahead limit s).1 input ran order output
 step_stands_ahead limit s input ran order output sound stood = to_stands limit s input ran order output (coming s) sound refl stood

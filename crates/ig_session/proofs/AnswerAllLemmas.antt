@@ -104,7 +104,7 @@ module _ {C : Type 0} (stands : C → PlainCaches → List (Entry Call Answer) �
   pub since_written : {D : Type 0} (done : D) (mid new : State) (s2 : SinkState) → IsSound old → (steps.Out, mid) ≡ next_step old → SendsWaiting mid new s1 s2 (Ok done) → Since stands seat a b first new s0 s2
   since_written done mid new s2 sound e sends = since_sent stands seat a b first mid new s0 s1 s2 (since_out mid sound e) sends.0 sends.1 sends.2
 
-  pub since_unwritten : {A : Type 0} (mid new : State) (s2 : SinkState) (end : SessionEnd) → IsSound old → (steps.Out, mid) ≡ next_step old → SendsWaiting mid new s1 s2 (Err end)
+  pub since_unwritten : {A : Type 0} (mid new : State) (s2 : SinkState) (end : SessionEnd) → IsSound old → (steps.Out, mid) ≡ next_step old → SendsWaiting {A = A} mid new s1 s2 (Err end)
       → AnswersAll {A = A} stands seat a b first new s0 s2 (Err end)
   since_unwritten {A} mid new s2 end sound e sends = subst (λ (x : SessionEnd). AnswersAll {A = A} stands seat a b first new s0 s2 (Err x)) (sym sends.0)
       (since_fault stands seat {A = A} a b first mid new s0 s1 s2 (since_out mid sound e) sends.1 sends.2)

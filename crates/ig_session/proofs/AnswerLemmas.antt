@@ -1,5 +1,5 @@
 -- An answer keeps what a session stands for.
-use Rattle.std.proofs.Common.{◌≡◌, ◌⊎◌, inl, inr, ℕ, zero, suc, ◌+◌, ◌≤◌, List, [], ◌∷◌, ◌++◌, length, Option, None, Some, Ok, Err, refl, sym, ap, ◌∙◌, subst, arith, append-nil, append_assoc, length-append}
+use Rattle.std.proofs.Common.{◌≡◌, ℕ, ◌+◌, ◌≤◌, List, [], ◌∷◌, ◌++◌, length, Option, Some, refl, sym, ap, ◌∙◌, subst, arith, append-nil, length-append}
 use Rattle.std.proofs.lemmas.List.{map-append}
 use Rattle.std.specs.Prelude.{Bool, cond}
 use Rattle.std.proofs.lemmas.Bool.{eq-eqb}
@@ -9,9 +9,9 @@ use Rattle.ig_base.specs.Frames.{client}
 use Rattle.ig_frame.specs.Streams.{Stream, HandedOut}
 use Rattle.ig_caches.specs.declared.call.Call.{Call}
 use Rattle.ig_deals.specs.declared.cfg.SessionCfg.{SessionCfg}
-use Rattle.ig_deals.specs.Hellos.{Greeting, greeting_of, hello_frame}
+use Rattle.ig_deals.specs.Hellos.{Greeting, hello_frame}
 use Rattle.ig_deals.specs.Asks.{Asked, asks_after, asks}
-use Rattle.ig_deals.specs.Deals.{Got, NoMemory, Ran, handed, gots, call_for, calls, Deal, dealt}
+use Rattle.ig_deals.specs.Deals.{Got, Ran, handed, gots, call_for, calls, Deal, dealt}
 use Rattle.ig_deals.specs.Desk.{Desk, fresh_desk}
 use Rattle.ig_deals.specs.Telling.{session_manner}
 use Rattle.ig_deals.specs.Replies.{reply_frame}
@@ -27,9 +27,9 @@ use Rattle.ig_session.specs.declared.phase.Phase.TheVariants.{BeforeHello, Open,
 use Rattle.ig_session.specs.declared.awaited.Awaited.{Awaited}
 use Rattle.ig_session.specs.Awaiting.{awaited_of, deal_of, without_nth}
 use Rattle.ig_session.specs.States.{State}
-use Rattle.ig_session.specs.Steps.{first_out, settled_in, answered_in, answered_at, answered, IsSpent, Lacks}
+use Rattle.ig_session.specs.Steps.{first_out, settled_in, answered_at, answered, IsSpent}
 use Rattle.ig_session.specs.StandsFor.{ShowsIn, ShowsSoFar, IsIn, IsOpenAt, AwaitFrom, Stands}
-use Rattle.ig_session.proofs.StandLemmas.{push_alone, push_shows, all_shown, one_lost, may_be_cut, open_frames, dealt_pending, dealt_answered, one_more_turn}
+use Rattle.ig_session.proofs.StandLemmas.{push_alone, push_shows, all_shown, one_lost, open_frames, dealt_pending, dealt_answered, one_more_turn}
 use Rattle.ig_session.proofs.AskLemmas.{open_in, in_open, shows_open, open_shows, nothing_pending}
 use Rattle.ig_session.proofs.KeptLemmas.{kept_turn}
 

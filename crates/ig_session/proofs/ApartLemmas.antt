@@ -1,5 +1,5 @@
 -- A request that looks at no cursor leaves the desk as it is, and its reply depends on no desk.
-use Rattle.std.proofs.Common.{None, Some, ◌≡◌, ◌≢◌, ℤ, Bool, true, false, if◌then◌else◌, List, [], ◌∷◌, ◌++◌, Option, Result, Ok, Err, refl, ap, ◌∙◌}
+use Rattle.std.proofs.Common.{None, Some, ◌≡◌, ◌≢◌, ℤ, Bool, true, false, if◌then◌else◌, List, ◌∷◌, ◌++◌, Option, Result, Ok, Err, refl, ap, ◌∙◌}
 use Rattle.ig_wire.specs.declared.version.Version.{Version}
 use Rattle.ig_wire.specs.declared.head.Fault.{Fault}
 use Rattle.ig_wire.specs.Versions.{has_flags}

@@ -1,12 +1,11 @@
 -- Reading a request keeps what a session stands for.
-use Rattle.std.proofs.Common.{◌≡◌, ℕ, suc, ◌+◌, ◌≤◌, List, [], ◌∷◌, ◌++◌, length, Option, None, Some, Ok, Err, refl, sym, ap, ◌∙◌, subst, arith, append-nil, append_assoc, length-append}
+use Rattle.std.proofs.Common.{◌≡◌, ℕ, List, [], ◌∷◌, ◌++◌, length, Option, None, Some, refl, sym, ap, ◌∙◌, subst, arith, append-nil, length-append}
 use Rattle.ig_base.specs.Frames.{client, least_after}
-use Rattle.ig_wire.specs.declared.hello.Hello.{Hello}
 use Rattle.ig_caches.specs.declared.call.Call.{Call}
 use Rattle.ig_deals.specs.declared.cfg.SessionCfg.{SessionCfg}
-use Rattle.ig_deals.specs.Hellos.{greeting_of, hello_frame}
+use Rattle.ig_deals.specs.Hellos.{hello_frame}
 use Rattle.ig_deals.specs.Asks.{Asked, asked_in, asks}
-use Rattle.ig_deals.specs.Deals.{Got, Ran, handed, gots, call_for, calls, Deal, dealt}
+use Rattle.ig_deals.specs.Deals.{Ran, gots, call_for, calls, Deal, dealt}
 use Rattle.ig_deals.specs.Desk.{Desk, fresh_desk}
 use Rattle.ig_deals.specs.Telling.{session_manner}
 use Rattle.ig_deals.specs.Replies.{reply_frame}
@@ -23,7 +22,7 @@ use Rattle.ig_session.specs.declared.awaited.Awaited.{Awaited}
 use Rattle.ig_session.specs.Awaiting.{awaited_of}
 use Rattle.ig_session.specs.States.{State}
 use Rattle.ig_session.specs.Comings.{Asks, coming}
-use Rattle.ig_session.specs.Steps.{passed, settled, handed_out}
+use Rattle.ig_session.specs.Steps.{settled, handed_out}
 use Rattle.ig_session.specs.Soundness.{IsSound}
 use Rattle.ig_session.specs.StandsFor.{ShowsIn, ShowsSoFar, IsIn, IsOpenAt, AwaitFrom, Stands}
 use Rattle.ig_session.proofs.ComingLemmas.{RequestIn, comes_as, request_comes}

@@ -3,15 +3,13 @@ use Rattle.std.proofs.Common.{◌≡◌, ℕ, List, [], ◌∷◌, if◌then◌e
 use Rattle.ig_base.specs.Frames.{client, Front, Body, Bad, Incomplete}
 use Rattle.ig_frame.specs.Streams.{front_at}
 use Rattle.ig_wire.specs.declared.hello.HelloFault.{HelloFault}
-use Rattle.ig_deals.specs.declared.end.SessionEnd.{SessionEnd}
-use Rattle.ig_deals.specs.declared.end.SessionEnd.TheVariants as ends
 use Rattle.ig_deals.specs.Hellos.{Greeting, greeting_of}
 use Rattle.ig_deals.specs.Asks.{Asked, asked_in}
 use Rattle.ig_replies.specs.declared.terms.Terms.{Terms}
 use Rattle.ig_session.specs.declared.phase.Phase.{Phase}
 use Rattle.ig_session.specs.declared.phase.Phase.TheVariants.{BeforeHello, Open, Refused, OutOfMemory}
 use Rattle.ig_session.specs.States.{State}
-use Rattle.ig_session.specs.Comings.{Coming, Replies, Stops, Misses, Greets, Asks, found, coming_in, coming, waits, least_in}
+use Rattle.ig_session.specs.Comings.{Coming, Replies, Misses, Greets, Asks, found, coming_in, coming, waits, least_in}
 
 -- ---- a hello
 

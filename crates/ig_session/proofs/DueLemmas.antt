@@ -1,31 +1,19 @@
 -- Which replies are due, and what was given for the call of one request.
-use Rattle.std.proofs.Common.{◌≡◌, ◌⊎◌, inl, inr, ℕ, zero, suc, ◌+◌, ◌<◌, ◌≤◌, List, [], ◌∷◌, ◌++◌, map, length, Option, None, Some, Result, Ok, Err, refl, sym, ap, ◌∙◌, subst, arith, append-nil, append_assoc, length-append}
-use Rattle.std.specs.Prelude.{◌↔◌, ◌&&◌, ◌||◌, Bool, true, false, Contains, slice_get}
+use Rattle.std.proofs.Common.{◌≡◌, ◌⊎◌, inl, inr, ℕ, zero, suc, ◌<◌, List, [], ◌∷◌, ◌++◌, length, Option, None, Some, Result, Ok, Err, refl, sym, ap, ◌∙◌, arith}
+use Rattle.std.specs.Prelude.{◌&&◌, ◌||◌, Bool, true, false, slice_get}
 use Rattle.std.specs.List.{list_any}
-use Rattle.std.proofs.lemmas.Bool.{both_ways, cases_eq}
-use Rattle.std.proofs.lemmas.List.Elements.{Contains-append_left, Contains-push}
-use Rattle.ig_wire.specs.declared.version.Version.{Version}
+use Rattle.std.proofs.lemmas.Bool.{both_ways}
 use Rattle.ig_wire.specs.declared.head.Fault.{Fault}
 use Rattle.ig_caches.specs.declared.call.Call.{Call}
 use Rattle.ig_caches.specs.declared.request.Request.{Request}
 use Rattle.ig_caches.specs.declared.request.Request.TheVariants.{Run, Scan, NextPage, Close}
-use Rattle.ig_deals.specs.declared.cfg.SessionCfg.{SessionCfg}
 use Rattle.ig_deals.specs.Asks.{Asked}
 use Rattle.ig_deals.specs.Deals.{Got, Deal, call_for}
-use Rattle.ig_deals.specs.Desk.{Desk, fresh_desk}
-use Rattle.ig_deals.specs.Replies.{reply_frame}
-use Rattle.ig_deals.specs.Turns.{Terms, Turn, turn_for, turn}
-use Rattle.ig_deals.specs.OutFrames.{desk_after}
-use Rattle.ig_deals.specs.Laws.{IsApart}
-use Rattle.ig_deals.proofs.ReplyLemmas.{replies-append}
 use Rattle.ig_session.specs.declared.awaited.Awaited.{Awaited}
 use Rattle.ig_session.specs.Awaiting.{awaits_in, awaited_of, is_scan}
 use Rattle.ig_session.specs.StepsAhead.{is_at_cursors, has_out}
-use Rattle.ig_session.specs.StandsAhead.{out_next, out_after, out_among, is_due, IsDue, LooksAtCursors, ComesNext, IsOrderAfter, IsOrder, AreScansAlone}
-use Rattle.ig_session.proofs.ApartLemmas.{left_at, apart_turn, desk_apart, crew_tells}
-use Rattle.ig_session.proofs.PlaceLemmas.{at_end, at_other, at_first, due_in, due_within, AreStillDue, still_due}
+use Rattle.ig_session.specs.StandsAhead.{out_next, out_after, out_among, is_due, IsDue}
 use Rattle.ig_session.proofs.OutLemmas.{calls_among, out_with}
-use Rattle.ig_session.proofs.AheadLemmas.{ahead_terms, frames_at, own_frame, frame_there, frames_beside, frames_first, frame_last}
 
 -- ---- truth values
 

@@ -1,27 +1,22 @@
 -- A session that ends has run to its end.
-use Rattle.std.specs.Prelude.{◌≢◌, ◌^◌, min}
-use Rattle.std.proofs.Common.{◌≡◌, ℕ, ◌+◌, ◌<◌, ◌≤◌, ℤ, List, [], ◌∷◌, ◌++◌, length, Option, None, Some, Ok, Err, refl, sym, ap, ◌∙◌, subst, arith, append-nil, length-append}
+use Rattle.std.proofs.Common.{◌≡◌, ℕ, ◌+◌, ◌<◌, ◌≤◌, ℤ, List, [], ◌∷◌, ◌++◌, length, Option, None, Some, Ok, refl, sym, ap, ◌∙◌, subst, arith, append-nil, length-append}
 use Rattle.std.specs.List.{flat_map}
-use Rattle.ig_base.specs.Frames.{client, max_body, least_after, Begins, Frame, front, Front, Body, Bad, Incomplete}
+use Rattle.ig_base.specs.Frames.{client, max_body, least_after, Frame, front, Front, Body, Bad, Incomplete}
 use Rattle.ig_wire.specs.declared.hello.Hello.{Hello}
 use Rattle.ig_wire.specs.Limits.{most_session_bytes}
-use Rattle.ig_frame.specs.Streams.{Stream, HandedOut, front_at, place_of}
+use Rattle.ig_frame.specs.Streams.{HandedOut, front_at}
 use Rattle.ig_caches.specs.declared.call.Call.{Call}
 use Rattle.ig_deals.specs.declared.end.SessionEnd.{SessionEnd}
 use Rattle.ig_deals.specs.declared.end.SessionEnd.TheVariants as ends
-use Rattle.ig_deals.specs.declared.cfg.SessionCfg.{SessionCfg}
-use Rattle.ig_deals.specs.Desk.{Desk}
-use Rattle.ig_deals.specs.Hellos.{Greeting, greeting_of}
+use Rattle.ig_deals.specs.Hellos.{greeting_of}
 use Rattle.ig_deals.specs.Asks.{Asked, asked_in, asks}
 use Rattle.ig_deals.specs.Deals.{Ran, handed, gots, call_for, calls}
 use Rattle.ig_deals.specs.Telling.{session_manner}
 use Rattle.ig_deals.specs.OutFrames.{out_frames}
 use Rattle.ig_deals.specs.Serves.{IsAccepted, IsOpen, IsGoing, IsWaiting, EndsBy, Shows, ShowsPart, Runs, joined}
 use Rattle.ig_replies.specs.declared.terms.Terms.{Terms}
-use Rattle.ig_replies.specs.Showing.{Waiting}
 use Rattle.ig_session.specs.declared.phase.Phase.{Phase}
 use Rattle.ig_session.specs.declared.phase.Phase.TheVariants.{BeforeHello, Open, Refused, OutOfMemory}
-use Rattle.ig_session.specs.declared.awaited.Awaited.{Awaited}
 use Rattle.ig_session.specs.declared.step.Step.TheVariants as steps
 use Rattle.ig_session.specs.States.{State}
 use Rattle.ig_session.specs.Comings.{Coming, Replies, Stops, Misses, Greets, Asks, least_in, found, coming_in, coming}
@@ -64,7 +59,7 @@ fault_is_end s input ran output within stood = (
 -- ---- where the input is waited for, or stops being frames
 
 -- the place where the stream was read to is an offset in the input
-place_is : (s : State) (input : List ℕ) (bodies : List (List ℕ)) → length input ≤ most_session_bytes → HandedOut client s.stream input bodies → s.stream.place + length s.stream.rest ≡ length input
+pub place_is : (s : State) (input : List ℕ) (bodies : List (List ℕ)) → length input ≤ most_session_bytes → HandedOut client s.stream input bodies → s.stream.place + length s.stream.rest ≡ length input
 place_is s input bodies within read = omega (arith, within, read.place, ap length read.begins.whole, length-append (flat_map Frame bodies) s.stream.rest)
 
 -- the bodies that were read in this phase: no hello was refused, and the next body has this least length
@@ -72,21 +67,21 @@ pub record Goes (phase : Phase) (bodies : List (List ℕ)) : Type 0 where
   pub going : IsGoing bodies
   pub least : least_in phase ≡ least_after client bodies
 
-goes_before : (bodies : List (List ℕ)) → bodies ≡ [] → Goes BeforeHello bodies
+pub goes_before : (bodies : List (List ℕ)) → bodies ≡ [] → Goes BeforeHello bodies
 goes_before bodies e = record { going = subst IsGoing (sym e) tt; least = ap (least_after client) (sym e) }
 
-goes_open : (terms : Terms) (bodies : List (List ℕ)) (hello : List ℕ) (requests : List (List ℕ)) (accepted : Hello) → bodies ≡ hello ∷ requests → greeting_of hello ≡ Ok accepted → Goes (Open terms) bodies
+pub goes_open : (terms : Terms) (bodies : List (List ℕ)) (hello : List ℕ) (requests : List (List ℕ)) (accepted : Hello) → bodies ≡ hello ∷ requests → greeting_of hello ≡ Ok accepted → Goes (Open terms) bodies
 goes_open terms bodies hello requests accepted e greets = record {
   going = subst IsGoing (sym e) (subst IsAccepted (sym greets) tt);
   least = ap (least_after client) (sym e);
 }
 
-here : (s : State) (phase : Phase) (bodies : List (List ℕ)) (f : Front) → s.stream.limit ≡ max_body → Goes phase bodies → front_at (least_in phase) s.stream ≡ f → front (least_after client bodies) max_body s.stream.rest ≡ f
+pub here : (s : State) (phase : Phase) (bodies : List (List ℕ)) (f : Front) → s.stream.limit ≡ max_body → Goes phase bodies → front_at (least_in phase) s.stream ≡ f → front (least_after client bodies) max_body s.stream.rest ≡ f
 here s phase bodies f limit goes e =
     ap (λ (n : ℕ). front n max_body s.stream.rest) (sym goes.least) ∙ ap (λ (n : ℕ). front (least_in phase) n s.stream.rest) (sym limit) ∙ e
 
 -- a stop at a length out of range
-found_stop : (s : State) (reads : List ℕ → Coming) (f : Front) (end : SessionEnd) → ((body : List ℕ) → reads body ≡ Stops end → ⊥) → found s reads f ≡ Stops end
+pub found_stop : (s : State) (reads : List ℕ → Coming) (f : Front) (end : SessionEnd) → ((body : List ℕ) → reads body ≡ Stops end → ⊥) → found s reads f ≡ Stops end
     → (n : ℤ) × (f ≡ Bad n) × (end ≡ ends.BadFrame s.stream.place n)
 found_stop s reads (Body body rest) end never e = absurd (never body e)
 found_stop s reads (Bad n) end never e = let same : ends.BadFrame s.stream.place n ≡ end = cc in (n, refl, sym same)

@@ -1,24 +1,23 @@
 -- Reading the hello keeps what a session stands for.
-use Rattle.std.proofs.Common.{◌≡◌, ℕ, ◌+◌, ◌≤◌, List, [], ◌∷◌, ◌++◌, length, Result, Ok, Err, refl, sym, ap, ◌∙◌, subst, arith, length-append}
+use Rattle.std.proofs.Common.{◌≡◌, ℕ, List, [], ◌∷◌, ◌++◌, length, Ok, Err, refl, sym, ap, ◌∙◌, subst, arith}
 use Rattle.ig_base.specs.Frames.{client, least_after}
 use Rattle.ig_wire.specs.declared.hello.Hello.{Hello}
 use Rattle.ig_wire.specs.declared.hello.HelloFault.{HelloFault}
 use Rattle.ig_caches.specs.declared.call.Call.{Call}
 use Rattle.ig_deals.specs.declared.cfg.SessionCfg.{SessionCfg}
-use Rattle.ig_deals.specs.Hellos.{Greeting, greeting_of, hello_frame}
+use Rattle.ig_deals.specs.Hellos.{Greeting, greeting_of}
 use Rattle.ig_deals.specs.Asks.{Asked, asks_after, asks}
-use Rattle.ig_deals.specs.Deals.{Got, Ran, handed, gots, calls, dealt}
+use Rattle.ig_deals.specs.Deals.{Got, Ran, gots, calls, dealt}
 use Rattle.ig_deals.specs.Desk.{Desk, fresh_desk}
 use Rattle.ig_deals.specs.Telling.{session_manner}
-use Rattle.ig_deals.specs.Turns.{Terms}
 use Rattle.ig_deals.specs.OutFrames.{desk_after, terms_at, frames_after, out_frames}
 use Rattle.ig_replies.specs.Showing.{Waiting, after_push}
 use Rattle.ig_session.specs.declared.phase.Phase.{Phase}
-use Rattle.ig_session.specs.declared.phase.Phase.TheVariants.{BeforeHello, Open, Refused}
+use Rattle.ig_session.specs.declared.phase.Phase.TheVariants.{BeforeHello}
 use Rattle.ig_session.specs.declared.awaited.Awaited.{Awaited}
 use Rattle.ig_session.specs.States.{State}
 use Rattle.ig_session.specs.Comings.{Greets, coming}
-use Rattle.ig_session.specs.Steps.{greeting_frame, greeted, opened, refused}
+use Rattle.ig_session.specs.Steps.{greeting_frame, opened, refused}
 use Rattle.ig_session.specs.Soundness.{IsSound}
 use Rattle.ig_session.specs.StandsFor.{ShowsIn, ShowsSoFar, IsIn, AwaitFrom, Stands}
 use Rattle.ig_session.proofs.ComingLemmas.{HelloIn, comes_as, hello_comes}

@@ -6,8 +6,10 @@ use Rattle.ig_base.specs.declared.memory.NoRoom.{NoRoom}
 use Rattle.ig_caches.specs.declared.call.Call.{Call}
 use Rattle.ig_caches.specs.declared.answer.Answer.{Answer}
 use Rattle.ig_caches.specs.PlainCaches.{PlainCaches}
+use Rattle.ig_caches.specs.AnswersKind.{AnswersKind}
 use Rattle.ig_caches.specs.Answered.{answered, after}
 use Rattle.ig_caches.specs.Legal.{Legal, caches_after}
+use Rattle.ig_caches.proofs.FitLemmas.{answers_fit}
 use Rattle.ig_deals.specs.Deals.{Ran, entry_of, entries_of}
 use Rattle.ig_session.specs.Histories.{AreUnder, StandsOn}
 use Rattle.ig_session.specs.StandsAlone.{StandsAlone}
@@ -45,6 +47,11 @@ pub alone_runs : {E F : Type 0} (caches : E → PlainCaches) (old new : Alone E)
     → OnOk result (caches new.exec ≡ after (caches old.exec) call) → IfOk result (λ answer. StandsOn (StandsAlone caches) old new (record { seat = 0; ask = call; got = answer } ∷ []))
 alone_runs caches old new call (Ok answer) is leaves = ran_alone caches old new call answer is leaves
 alone_runs caches old new call (Err e) is leaves = tt
+
+-- the answer is of the call's kind
+pub answer_fits : {F : Type 0} (c : PlainCaches) (call : Call) (result : Result Answer F) → IfOk result (λ answer. answer ≡ answered c call) → IfOk result (λ answer. AnswersKind call answer.outcome)
+answer_fits c call (Ok answer) is = subst (λ (a : Answer). AnswersKind call a.outcome) (sym is) (answers_fit c call)
+answer_fits c call (Err e) is = tt
 
 -- ---- any caller
 

@@ -30,6 +30,7 @@ pub mod StandsByLemmas
 pub mod AheadGreetLemmas
 pub mod AheadStepLemmas
 pub mod AheadAnswerLemmas
+pub mod AheadEndLemmas
 pub mod TakeLemmas
 pub mod SinceLemmas
 pub mod SendLemmas

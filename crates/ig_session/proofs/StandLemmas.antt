@@ -1,30 +1,28 @@
 -- What each step keeps of what a session stands for.
-use Rattle.std.proofs.Common.{◌≡◌, ◌⊎◌, inl, inr, ℕ, suc, ◌+◌, ◌≤◌, List, [], ◌∷◌, ◌++◌, map, length, take, drop, Option, None, Some, Result, Ok, Err, refl, sym, ap, ◌∙◌, subst, arith, append-nil, append_assoc, length-append}
-use Rattle.std.proofs.lemmas.List.{length-map, take-append-drop}
+use Rattle.std.proofs.Common.{◌≡◌, ℕ, ◌≤◌, List, [], ◌∷◌, ◌++◌, length, take, drop, Option, None, Some, Ok, refl, sym, ap, ◌∙◌, subst, arith, append-nil, append_assoc}
+use Rattle.std.proofs.lemmas.List.{take-append-drop}
 use Rattle.ig_base.specs.Numbers.{AreBytes}
 use Rattle.ig_base.specs.Frames.{client, max_body, least_after, Begins, Frame, front, Body}
 use Rattle.ig_base.proofs.FrameLemmas.{front-reads, Begins-start, Begins-more, Begins-next, rest_bytes, append_bytes}
-use Rattle.ig_wire.specs.declared.version.Version.{Version}
 use Rattle.ig_wire.specs.declared.hello.Hello.{Hello}
-use Rattle.ig_frame.specs.Streams.{Stream, HandedOut, front_at, stream_after_frame, place_of}
+use Rattle.ig_frame.specs.Streams.{Stream, HandedOut, front_at, stream_after_frame}
 use Rattle.ig_frame.proofs.StreamLemmas.{HandedOut-passed, stream_after_frame-found}
 use Rattle.ig_caches.specs.declared.call.Call.{Call}
 use Rattle.ig_deals.specs.declared.cfg.SessionCfg.{SessionCfg}
 use Rattle.ig_deals.specs.Hellos.{Greeting, greeting_of, hello_frame}
 use Rattle.ig_deals.specs.Asks.{Asked, asked_in, asks_after, asks}
-use Rattle.ig_deals.specs.Deals.{Got, Ran, handed, gots, call_for, calls, Deal, deal_next, dealt}
-use Rattle.ig_deals.specs.Desk.{Desk, fresh_desk}
+use Rattle.ig_deals.specs.Deals.{Got, Ran, handed, call_for, calls, Deal, deal_next, dealt}
+use Rattle.ig_deals.specs.Desk.{fresh_desk}
 use Rattle.ig_deals.specs.Telling.{session_manner}
 use Rattle.ig_deals.specs.Replies.{reply_frame}
 use Rattle.ig_deals.specs.Turns.{Terms, turn}
 use Rattle.ig_deals.specs.OutFrames.{desk_after, reply_frames, terms_at, frames_after, out_frames}
 use Rattle.ig_deals.specs.Serves.{joined, ShowsPart}
 use Rattle.std.proofs.lemmas.Grind.{flat_map-append}
-use Rattle.ig_deals.proofs.DealLemmas.{asks-append, calls-append, given_for, dealt-append}
+use Rattle.ig_deals.proofs.DealLemmas.{asks-append, dealt-append}
 use Rattle.ig_deals.proofs.ReplyLemmas.{replies-append, reply_frames-append}
 use Rattle.ig_replies.specs.Showing.{Waiting, left_of, frames_and, after_push}
 use Rattle.ig_session.specs.declared.phase.Phase.{Phase}
-use Rattle.ig_session.specs.declared.phase.Phase.TheVariants.{BeforeHello, Open, Refused, OutOfMemory}
 use Rattle.ig_session.specs.States.{State, new_state}
 use Rattle.ig_session.specs.Comings.{least_in}
 use Rattle.ig_session.specs.Steps.{fed, passed}

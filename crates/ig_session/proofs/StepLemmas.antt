@@ -1,5 +1,5 @@
 -- One step keeps what a session stands for.
-use Rattle.std.proofs.Common.{◌≡◌, inl, inr, ℕ, ◌+◌, ◌≤◌, List, [], ◌∷◌, length, Option, None, Some, Ok, Err, refl, sym, ap, ◌∙◌, subst, arith}
+use Rattle.std.proofs.Common.{◌≡◌, inl, inr, ℕ, ◌+◌, ◌≤◌, List, [], length, Option, None, Some, Ok, Err, refl, sym, ap, ◌∙◌, subst, arith}
 use Rattle.ig_base.specs.Numbers.{AreBytes}
 use Rattle.ig_base.specs.Frames.{client}
 use Rattle.ig_frame.specs.Streams.{Stream, HandedOut}
@@ -19,7 +19,7 @@ use Rattle.ig_session.specs.States.{State}
 use Rattle.ig_session.specs.Comings.{Coming, Replies, Stops, Misses, Greets, Asks, coming}
 use Rattle.ig_session.specs.Steps.{step_to, asked_next, next_step, IsSpent, Lacks}
 use Rattle.ig_session.specs.Soundness.{IsSound}
-use Rattle.ig_session.specs.StandsFor.{ShowsSoFar, ShowsIn, IsIn, AwaitFrom, Stands}
+use Rattle.ig_session.specs.StandsFor.{ShowsIn, IsIn, AwaitFrom, Stands}
 use Rattle.ig_session.specs.Laws.{StandsAfter}
 use Rattle.ig_session.proofs.StandLemmas.{may_be_cut}
 use Rattle.ig_session.proofs.GreetLemmas.{opened_stands, refused_stands}

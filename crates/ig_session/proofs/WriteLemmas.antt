@@ -1,5 +1,5 @@
 -- Bytes that are written keep what a session stands for.
-use Rattle.std.proofs.Common.{◌≡◌, refl, ℕ, ◌+◌, ◌-◌, ◌<◌, ◌≤◌, inl, inr, List, [], ◌∷◌, ◌++◌, length, take, drop, sym, ap, ◌∙◌, subst, arith, take-add}
+use Rattle.std.proofs.Common.{◌≡◌, refl, ℕ, ◌+◌, ◌≤◌, inl, inr, List, [], ◌∷◌, ◌++◌, length, take, drop, sym, ap, ◌∙◌, subst, arith, take-add}
 use Rattle.std.specs.Prelude.{min, nat_lt}
 use Rattle.std.proofs.lemmas.Bool.{le-ltb, lt-ltb, cond-true, cond-false, cases_lt}
 use Rattle.std.proofs.lemmas.List.{append-nil, append_assoc, length-take, take-take, take_all}
@@ -9,7 +9,7 @@ use Rattle.ig_deals.specs.Telling.{session_manner}
 use Rattle.ig_deals.specs.OutFrames.{out_frames}
 use Rattle.ig_deals.specs.Pieces.{piece_left, piece_at}
 use Rattle.ig_deals.specs.Serves.{joined, ShowsPart}
-use Rattle.ig_replies.specs.Showing.{Waiting, piece_of, piece_shown, frames_when, after_gone}
+use Rattle.ig_replies.specs.Showing.{Waiting, piece_of, piece_shown, frames_when}
 use Rattle.ig_session.proofs.StandLemmas.{joined-append}
 use Rattle.ig_session.specs.declared.phase.Phase.{Phase}
 use Rattle.ig_session.specs.declared.phase.Phase.TheVariants.{BeforeHello, Open, Refused, OutOfMemory}
@@ -25,7 +25,7 @@ more_of frame gone n le =
     let len : length (piece_at frame gone) ≡ min (piece_left gone) (length (drop gone frame)) = length-take (piece_left gone) (drop gone frame) in
     ap (λ (l : List ℕ). take gone frame ++ l) (take-take n (piece_left gone) (drop gone frame) (omega (arith, len, le))) ∙ sym (take-add gone n frame)
 
-written_shows : (frames waiting : List (List ℕ)) (gone n : ℕ) (output : List ℕ) → n ≤ length (piece_of waiting gone)
+pub written_shows : (frames waiting : List (List ℕ)) (gone n : ℕ) (output : List ℕ) → n ≤ length (piece_of waiting gone)
     → ShowsSoFar frames (record { frames = waiting; gone = gone }) output → ShowsSoFar frames (frames_when waiting (gone + n)) (output ++ take n (piece_of waiting gone))
 written_shows frames [] gone n output le so = record {
   shown = so.shown;
@@ -55,7 +55,7 @@ written_shows frames (frame ∷ others) gone n output le so =
       none_gone (f ∷ l) = refl
 
 -- no more frames wait than before
-fewer_wait : (waiting : List (List ℕ)) (n : ℕ) → length (frames_when waiting n).frames ≤ length waiting
+pub fewer_wait : (waiting : List (List ℕ)) (n : ℕ) → length (frames_when waiting n).frames ≤ length waiting
 fewer_wait [] n = omega arith
 fewer_wait (frame ∷ others) n = elim (cases_lt n (length frame)) [
   | inl lt ↦ let stays = ap (λ (w : Waiting). length w.frames) (cond-true (nat_lt n (length frame)) (record { frames = frame ∷ others; gone = n }) (record { frames = others; gone = 0 }) (lt-ltb n (length frame) lt)) in omega (arith, stays)

@@ -1,5 +1,5 @@
 -- Which configurations a session may have.
-use Rattle.std.specs.Prelude.{ℕ, ◌<◌, ◌≤◌}
+use Rattle.std.specs.Prelude.{◌<◌, ◌≤◌}
 use Rattle.ig_deals.specs.declared.cfg.SessionCfg.{SessionCfg}
 
 -- the node is one of at most 256, and a cache has 1 to 65,000 partitions

@@ -1,5 +1,5 @@
 -- What comes next in a session.
-use Rattle.std.specs.Prelude.{◌≡◌, ℕ, List, [], ◌∷◌, Bool, true, false, Ok, Err, if◌then◌else◌}
+use Rattle.std.specs.Prelude.{◌≡◌, ℕ, List, [], ◌∷◌, Bool, true, false, if◌then◌else◌}
 use Rattle.ig_base.specs.Frames.{client, Front, Body, Bad, Incomplete}
 use Rattle.ig_frame.specs.Streams.{front_at}
 use Rattle.ig_deals.specs.declared.end.SessionEnd.{SessionEnd}

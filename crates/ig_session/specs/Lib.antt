@@ -10,6 +10,7 @@ pub mod StepsAhead
 pub mod StandsFor
 pub mod StandsAhead
 pub mod Laws
+pub mod RunsAhead
 pub mod LawsAhead
 pub mod Histories
 pub mod StandsAlone

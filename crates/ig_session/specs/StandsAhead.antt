@@ -1,5 +1,5 @@
 -- What a session stands for of which several calls may be out, and are answered in any order.
-use Rattle.std.specs.Prelude.{◌≡◌, ◌↔◌, ℕ, suc, ◌<◌, Bool, true, false, List, [], ◌∷◌, ◌++◌, map, length, Contains, slice_get, Option, None, Some, Result, Ok, Err}
+use Rattle.std.specs.Prelude.{◌≡◌, ◌↔◌, ℕ, suc, ◌+◌, ◌≤◌, ◌<◌, Bool, true, false, List, [], ◌∷◌, ◌++◌, map, length, Contains, slice_get, Option, None, Some, Ok, Err}
 use Rattle.std.specs.List.{filter_map}
 use Rattle.ig_base.specs.Numbers.{AreBytes}
 use Rattle.ig_base.specs.Frames.{client}
@@ -14,15 +14,14 @@ use Rattle.ig_deals.specs.Desk.{Desk, fresh_desk}
 use Rattle.ig_deals.specs.Telling.{crew_manner}
 use Rattle.ig_deals.specs.Turns.{Terms}
 use Rattle.ig_deals.specs.OutFrames.{desk_after, reply_frames, terms_at}
-use Rattle.ig_deals.specs.Serves.{IsRefused, joined}
-use Rattle.ig_deals.specs.Laws.{IsPrefix}
+use Rattle.ig_deals.specs.Serves.{IsRefused}
 use Rattle.ig_replies.specs.RunTerms.{terms_of}
-use Rattle.ig_replies.specs.Showing.{Waiting, bytes_left}
 use Rattle.ig_session.specs.declared.phase.Phase.{Phase}
 use Rattle.ig_session.specs.declared.phase.Phase.TheVariants.{BeforeHello, Open, Refused, OutOfMemory}
 use Rattle.ig_session.specs.declared.awaited.Awaited.{Awaited}
 use Rattle.ig_session.specs.Awaiting.{awaited_of}
 use Rattle.ig_session.specs.States.{State}
+use Rattle.ig_session.specs.StandsFor.{ShowsSoFar}
 use Rattle.ig_session.specs.StepsAhead.{is_at_cursors}
 
 -- ---- calls
@@ -103,6 +102,13 @@ abbrev pub HasEach : Phase → List Deal → List ℕ → Type 0
 HasEach OutOfMemory deals order = Unit {0}
 HasEach phase deals order = (place : ℕ) → IsDue (slice_get deals place) → Contains order place
 
+-- Each request was replied, or its call is out, and no more calls are out and replies wait than calls may be out. Where memory
+-- ran out, no more replies are missing or wait.
+abbrev pub AreCounted : ℕ → Phase → List Awaited → ℕ → List Deal → List ℕ → Type 0
+AreCounted limit OutOfMemory out waiting deals order = length deals + waiting ≤ length order + limit
+AreCounted limit phase out waiting deals order =
+    (length deals ≡ length order + length out) × (length out + waiting ≤ limit)
+
 -- the frames of the replies in this order
 abbrev pub in_order : List (List ℕ) → List ℕ → List (List ℕ)
 in_order frames order = filter_map (slice_get frames) order
@@ -141,8 +147,8 @@ IsInAhead OutOfMemory cfg desk bodies deals = Unit {0}
 -- The session was fed this input and has read the bodies that it begins with. The calls that they ask for were
 -- handed out, each once and in order, and this was given for each that isn't out. The output and what waits
 -- are the reply to the hello and the replies that are due, in this order; where memory ran out, some of them may
--- be missing.
-pub record StandsAhead (s : State) (input : List ℕ) (ran : List HandedAhead) (order : List ℕ) (output : List ℕ) : Type 0 where
+-- be missing. Up to `limit` calls may be out.
+pub record StandsAhead (limit : ℕ) (s : State) (input : List ℕ) (ran : List HandedAhead) (order : List ℕ) (output : List ℕ) : Type 0 where
   pub bodies : List (List ℕ)
   pub read : HandedOut client s.stream input bodies
   pub are_bytes : AreBytes s.stream.rest
@@ -153,4 +159,5 @@ pub record StandsAhead (s : State) (input : List ℕ) (ran : List HandedAhead) (
   pub alone : AreScansAlone (dealt_ahead (asks bodies) (given_so_far ran))
   pub order_is : IsOrder (dealt_ahead (asks bodies) (given_so_far ran)) order
   pub each : HasEach s.phase (dealt_ahead (asks bodies) (given_so_far ran)) order
-  pub shows : output ++ bytes_left s.waiting ≡ joined (out_ahead s.cfg bodies (dealt_ahead (asks bodies) (given_so_far ran)) order)
+  pub counted : AreCounted limit s.phase s.out (length s.waiting.frames) (dealt_ahead (asks bodies) (given_so_far ran)) order
+  pub shows : ShowsSoFar (out_ahead s.cfg bodies (dealt_ahead (asks bodies) (given_so_far ran)) order) s.waiting output

@@ -1,5 +1,5 @@
 -- What each call on a session leads to, where calls are answered in the order of their requests.
-use Rattle.std.specs.Prelude.{◌≡◌, ◌⊎◌, ◌+◌, ◌<◌, ℕ, suc, List, [], ◌∷◌, ◌++◌, length, Option, None, Some, Result, Ok, Err, if◌then◌else◌}
+use Rattle.std.specs.Prelude.{◌≡◌, ◌⊎◌, ◌+◌, ◌<◌, ℕ, suc, List, [], ◌∷◌, ◌++◌, length, Option, None, Some, Result, Ok, Err}
 use Rattle.ig_base.specs.declared.memory.NoRoom.{NoRoom}
 use Rattle.ig_base.specs.Frames.{Frame}
 use Rattle.ig_wire.specs.declared.version.Version.{Version}
@@ -24,7 +24,7 @@ use Rattle.ig_replies.specs.declared.terms.Terms.{Terms}
 use Rattle.ig_replies.specs.RunTerms.{terms_of}
 use Rattle.ig_replies.specs.Showing.{after_gone, after_push}
 use Rattle.ig_session.specs.declared.phase.Phase.{Phase}
-use Rattle.ig_session.specs.declared.phase.Phase.TheVariants.{BeforeHello, Open, Refused, OutOfMemory}
+use Rattle.ig_session.specs.declared.phase.Phase.TheVariants.{Open, Refused, OutOfMemory}
 use Rattle.ig_session.specs.declared.step.Step.{Step}
 use Rattle.ig_session.specs.declared.step.Step.TheVariants as steps
 use Rattle.ig_session.specs.declared.awaited.Awaited.{Awaited}

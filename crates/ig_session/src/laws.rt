@@ -2,7 +2,7 @@
 //! each step.
 
 ghost use Rattle.ig_session.specs.Laws.{NewStands, FedStands, StepStands, AnswerStands, LostAnswerStands, LackStands, WrittenStands, StopIsEnd, FaultIsEnd, PauseIsEnd};
-ghost use Rattle.ig_session.specs.LawsAhead.{NewStandsAhead, FedStandsAhead, StepStandsAhead, AnswerStandsAhead, LostAnswerStandsAhead, LackStandsAhead, WrittenStandsAhead};
+ghost use Rattle.ig_session.specs.LawsAhead.{NewStandsAhead, FedStandsAhead, StepStandsAhead, AnswerStandsAhead, LostAnswerStandsAhead, LackStandsAhead, WrittenStandsAhead, StopIsEndAhead, FaultIsEndAhead, PauseIsEndAhead};
 
 /// A session stands for the input that it was fed, the calls that it handed out with what was given for
 /// them, and the output that was written: nothing at first, and the longer lists after each call. A
@@ -34,4 +34,12 @@ pub fn sessions_end()
     ensures stop { StopIsEnd }
     ensures fault { FaultIsEnd }
     ensures pause { PauseIsEnd }
+{}
+
+/// The same of a session of which several calls may be out. Where no fault ended it, each call was answered
+/// and each request replied, once; after a fault, no more replies are missing or cut off than calls may be out.
+pub fn sessions_end_ahead()
+    ensures stop { StopIsEndAhead }
+    ensures fault { FaultIsEndAhead }
+    ensures pause { PauseIsEndAhead }
 {}

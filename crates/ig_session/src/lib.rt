@@ -13,7 +13,8 @@
 //! a function on states (`specs/Steps.antt`, `specs/StepsAhead.antt`). `Stands` in
 //! `specs/StandsFor.antt` says which input, which calls with what was given for them, and which output a
 //! state stands for; the laws of [`sessions_stand`] say that each call keeps it for the longer lists, and
-//! [`sessions_end`] that a session which ended has run as `Runs` of `ig_deals` says.
+//! [`sessions_end`] that a session which ended has run as `Runs` of `ig_deals` says. `StandsAhead`, `RunsAhead`,
+//! [`sessions_stand_ahead`] and [`sessions_end_ahead`] say the same where calls are answered in any order.
 #![tactic(auto)]
 
 mod ahead;
@@ -35,7 +36,7 @@ mod step;
 
 pub use caller::{Alone, Caller};
 pub use ig_deals::{SessionCfg, SessionEnd};
-pub use laws::{sessions_end, sessions_stand, sessions_stand_ahead};
+pub use laws::{sessions_end, sessions_end_ahead, sessions_stand, sessions_stand_ahead};
 pub use serve::{serve_ends, serve_link};
 pub use session::Session;
 pub use step::{Ahead, Step};

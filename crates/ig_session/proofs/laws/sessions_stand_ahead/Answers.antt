@@ -8,8 +8,8 @@ returns c = record {
   new = new_stands_ahead;
   fed = fed_stands_ahead;
   step = step_stands_ahead;
-  answer = λ s input ran order output nth call got at stood. answered_stands_ahead s input ran order output nth call got at stood;
-  lost = λ s new input ran order output nth call got at spent stood. lost_stands_ahead s input ran order output nth call got at stood new spent;
+  answer = λ limit s input ran order output nth call got at stood. answered_stands_ahead limit s input ran order output nth call got at stood;
+  lost = λ limit s new input ran order output nth call got at spent stood. lost_stands_ahead limit s input ran order output nth call got at stood new spent;
   lack = lack_stands_ahead;
   written = written_stands_ahead;
 }
