@@ -70,7 +70,8 @@ told_is_short true None fault short =
     omega (
       arith,
       short,
-      length-append (LE w16 (flag_number false true)) (fault_bytes (Some fault)),
+      length-append (LE w16 (flag_number false true) ++ topology_bytes None) (fault_bytes (Some fault)),
+      length-append (LE w16 (flag_number false true)) (topology_bytes None),
       length-LE_16 (flag_number false true),
       length-append (LE w32 fault.status) (string fault.text),
       length-LE_32 fault.status,
@@ -81,9 +82,9 @@ told_is_short true (Some t) fault short =
     omega (
       arith,
       short,
-      length-append (LE w16 (flag_number true true)) (topology_bytes (Some t) ++ fault_bytes (Some fault)),
+      length-append (LE w16 (flag_number true true) ++ topology_bytes (Some t)) (fault_bytes (Some fault)),
+      length-append (LE w16 (flag_number true true)) (topology_bytes (Some t)),
       length-LE_16 (flag_number true true),
-      length-append (topology_bytes (Some t)) (fault_bytes (Some fault)),
       length-append (LE w64 t.version) (LE w32 t.minor),
       length-LE_64 t.version,
       length-LE_32 t.minor,

@@ -105,3 +105,12 @@ refilled left old n most is =
 pub refilled_length : (left old : List ℕ) (n most : ℕ) → n ≡ min most (length left) → length old ≡ most → length (take n left ++ drop n old) ≡ most
 refilled_length left old n most is all =
     omega (arith, length-append (take n left) (drop n old), length-take n left, length-drop n old, is, all)
+
+-- the first bytes of a list are first too where more bytes follow, of which some are taken
+pub first_of_room : (n len : ℕ) (xs ys : List ℕ) → n ≤ len → n ≤ length xs → take n (take len (xs ++ ys)) ≡ take n xs
+first_of_room n len xs ys le within =
+    let zs : List ℕ = xs ++ ys in
+    let more : len ≡ n + (len - n) = omega (arith, le) in
+    let size : length (take n zs) ≡ n = omega (arith, length-take n zs, length-append xs ys, within) in
+    ap (λ (k : ℕ). take n (take k zs)) more ∙ ap (take n) (take-add n (len - n) zs)
+    ∙ take_at (take n zs) (take (len - n) (drop n zs)) n size ∙ take-append-le n xs ys within

@@ -1,6 +1,6 @@
 -- Queues of frames, and the pieces that are shown of them.
 use Rattle.std.proofs.Common.{◌≡◌, refl, ℕ, ◌+◌, ◌-◌, ◌<◌, ◌≤◌, List, [], ◌∷◌, ◌++◌, map, length, take, drop, sym, ap, subst, ◌∙◌, arith}
-use Rattle.std.specs.Prelude.{◌%◌, ◌↔◌, min, nat_lt, Bool, false, true, IsTrue, is_none, is_some, option_to_list, Option, None, Some, if◌then◌else◌}
+use Rattle.std.specs.Prelude.{◌%◌, ◌↔◌, min, nat_lt, Bool, false, true, not, IsTrue, is_some, option_to_list, Option, None, Some, if◌then◌else◌}
 use Rattle.std.specs.List.{AllByRecursion}
 use Rattle.std.proofs.lemmas.Bool.{le-ltb, lt-ltb, cond-true, cond-false}
 use Rattle.std.proofs.lemmas.List.{length-take, length-drop, map-append}
@@ -170,10 +170,16 @@ none_left (Some s) piece later is =
     (λ e. absurd (omega (arith, is.0.some, ap length e)), λ e. absurd (omega (arith, ap length e)))
 
 -- none waits exactly where there is no first one
-pub none_waits : (first : Option Showing) (piece : List ℕ) (later : List Showing) (b : Bool) → b ≡ is_none first
+pub none_waits : (first : Option Showing) (piece : List ℕ) (later : List Showing) (b : Bool) → is_some first ≡ not b
     → IsTrue b ↔ ((waiting_in first piece later).frames ≡ [])
-none_waits None piece later b is = (λ e. refl, λ e. is)
-none_waits (Some s) piece later b is = (λ e. absurd (clash (sym is ∙ e)), λ e. absurd (omega (arith, ap length e))) where
+none_waits None piece later true is = (λ e. refl, λ e. refl)
+none_waits None piece later false is = absurd (clash is) where
+  clash : false ≡ true → ⊥
+  clash h = cc
+none_waits (Some s) piece later true is = absurd (clash is) where
+  clash : true ≡ false → ⊥
+  clash h = cc
+none_waits (Some s) piece later false is = (λ e. absurd (clash e), λ e. absurd (omega (arith, ap length e))) where
   clash : false ≡ true → ⊥
   clash h = cc
 

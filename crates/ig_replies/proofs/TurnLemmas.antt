@@ -13,6 +13,7 @@ use Rattle.ig_base.specs.declared.Topology.{Topology}
 use Rattle.ig_wire.specs.declared.version.Version.{Version}
 use Rattle.ig_caches.specs.declared.call.Pair.{Pair}
 use Rattle.ig_caches.specs.declared.call.Call.TheVariants as call
+use Rattle.ig_caches.specs.declared.answer.Answer.{Answer}
 use Rattle.ig_caches.specs.declared.answer.Outcome.{Outcome}
 use Rattle.ig_caches.specs.declared.answer.Outcome.TheVariants as outcome
 use Rattle.ig_caches.specs.declared.request.Request.TheVariants.{Scan}
@@ -91,17 +92,18 @@ no_rows (outcome.Keys pairs) never = refl
 no_rows (outcome.Refused why) never = refl
 
 -- what a scan is replied whose call has rows
-pub scan_shows : (terms : Terms) (desk : Desk) (id cache page minor : ℤ) (rows : List Pair) (cursor : Cursor) → cursor ≡ cursor_for desk page rows
-    → scanned terms desk id minor cursor
-    ≡ request_turn terms desk id (Scan cache page) (Some (Had (record { minor = minor; outcome = outcome.Pairs rows })))
-scan_shows terms desk id cache page minor rows cursor e = ap (scanned terms desk id minor) e
+pub scan_shows : (terms : Terms) (desk : Desk) (id cache page : ℤ) (given : Answer) (rows : List Pair) (cursor : Cursor)
+    → given.outcome ≡ outcome.Pairs rows → cursor ≡ cursor_for desk page rows
+    → scanned terms desk id given.minor cursor ≡ request_turn terms desk id (Scan cache page) (Some (Had given))
+scan_shows terms desk id cache page given rows cursor rows_are cursor_is =
+    ap (scanned terms desk id given.minor) cursor_is
+    ∙ ap (λ (o : Outcome). scan_answer terms desk id cache page given (pairs_in o)) (sym rows_are)
 
 -- and one whose call has none
-pub scan_fails : (terms : Terms) (desk : Desk) (id cache page minor : ℤ) (o : Outcome) → pairs_in o ≡ None
-    → answers terms desk id minor (content_of terms.cfg (call.Scan cache) minor o)
-    ≡ request_turn terms desk id (Scan cache page) (Some (Had (record { minor = minor; outcome = o })))
-scan_fails terms desk id cache page minor o e =
-    ap (λ (r : Option (List Pair)). scan_answer terms desk id cache page (record { minor = minor; outcome = o }) r) (sym e)
+pub scan_fails : (terms : Terms) (desk : Desk) (id cache page : ℤ) (given : Answer) → pairs_in given.outcome ≡ None
+    → answers terms desk id given.minor (content_of terms.cfg (call.Scan cache) given.minor given.outcome)
+    ≡ request_turn terms desk id (Scan cache page) (Some (Had given))
+scan_fails terms desk id cache page given none = ap (scan_answer terms desk id cache page given) (sym none)
 
 -- ---- pages
 

@@ -1,7 +1,8 @@
 use ig_base::{Items, NoMemory, Octets};
-use ig_caches::{Answer, Call, Outcome, Pair, Why};
+use ig_caches::{Answer, Call, Outcome, Page, Pair, Shown, Why};
 use ig_deals::{Desk, Manner, SessionCfg};
 use ig_encode::encode;
+use ig_ops::write_result;
 use ig_replies::{
     Queue, ReplyFrame, Terms, answer, answer_scan, close, lacks_memory, next_page, refuse,
 };
@@ -157,10 +158,10 @@ static TOO_LONG: [u8; 35] = [
     116, 111, 111, 32, 108, 111, 110, 103,
 ];
 
-/// Rows of which each has its number as key and value, from 1 on.
-fn five_rows(alloc: Global) -> Result<Items<Pair>, NoMemory> {
+/// Rows of which each has its number as key and value, from 1 up to this one.
+fn rows_to(alloc: Global, last: i32) -> Result<Items<Pair>, NoMemory> {
     let mut rows = Vec::new(alloc);
-    for number in 1..=5 {
+    for number in 1..=last {
         rows.push(Pair {
             key: Value::Int(number),
             value: Value::Int(number),
@@ -183,7 +184,7 @@ fn replied(
         "no memory" => return Ok(lacks_memory(terms, id)),
         "unread" => return refuse(alloc, terms, id, AskFault::Unread { place: 14 }),
         "scan" => {
-            let outcome = Outcome::Pairs(five_rows(alloc)?);
+            let outcome = Outcome::Pairs(rows_to(alloc, 5)?);
             return answer_scan(alloc, terms, desk, id, 7, 2, Answer { minor: 0, outcome });
         }
         "found" => Outcome::Found(Value::Int(2)),
@@ -273,6 +274,37 @@ fn is_list(alloc: Global, bytes: &[u8], count: usize) -> Result<bool, NoMemory> 
     Ok(bytes == wanted.as_slice())
 }
 
+/// The frame of the first page of a scan, which has all of this many rows.
+fn frame_of_rows(alloc: Global, count: i32) -> Result<ReplyFrame, NoMemory> {
+    let terms = terms_at(Version::V1_0_0);
+    let outcome = Outcome::Pairs(rows_to(alloc, count)?);
+    let mut desk = Desk::new(alloc)?;
+    answer_scan(
+        alloc,
+        &terms,
+        &mut desk,
+        1,
+        7,
+        count,
+        Answer { minor: 0, outcome },
+    )
+}
+
+/// Whether the bytes are that frame: a row has 10 bytes, what comes before the rows 24, and one comes
+/// after them.
+fn is_page(alloc: Global, bytes: &[u8], count: i32) -> Result<bool, NoMemory> {
+    let page = Page {
+        cursor: Some(1),
+        rows: rows_to(alloc, count)?,
+        more: false,
+    };
+    let mut wanted = Octets::empty(alloc);
+    wanted.append(&(count * 10 + 25).to_le_bytes())?;
+    wanted.append(&[1, 0, 0, 0, 0, 0, 0, 0, 0, 0, 0, 0])?;
+    write_result(alloc, &Shown::Page(page), &mut wanted)?;
+    Ok(bytes == wanted.as_slice())
+}
+
 #[test]
 fn replies_are_shown_in_order(rt: HostRuntime) -> Result<(), Fail> {
     let alloc = rt.alloc();
@@ -299,6 +331,20 @@ fn long_values_are_shown_in_pieces(rt: HostRuntime) -> Result<(), Fail> {
             return Ok(());
         };
         assert!(rt; is_list(alloc, bytes.as_slice(), 200_000)?);
+    }
+    Ok(())
+}
+
+#[test]
+fn long_pages_are_shown_in_pieces(rt: HostRuntime) -> Result<(), Fail> {
+    let alloc = rt.alloc();
+    for step in [65_536, 50_001] {
+        let frame = frame_of_rows(alloc, 15_000)?;
+        let Some(bytes) = shows(alloc, frame, step)? else {
+            assert!(rt; false);
+            return Ok(());
+        };
+        assert!(rt; is_page(alloc, bytes.as_slice(), 15_000)?);
     }
     Ok(())
 }

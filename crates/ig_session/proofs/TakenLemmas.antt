@@ -68,12 +68,13 @@ comes_any s terms id asked comes = (terms, asked_said id asked, comes.comes)
 -- ---- a call was answered
 
 -- the turn of an answer, by what is remembered of the request
-pub answered_turn : {E : Type 0} (result : Result Showing E) (terms : Terms) (desk now : Desk) (awaited : Awaited) (answer : Answer) (awaits : Awaits) → awaited.awaits ≡ awaits
-    → IfOk result (λ frame. IsTurned terms (request_turn terms desk awaited.id (request_of awaits) (Some (Had answer))) frame now)
+pub answered_turn : {E : Type 0} (result : Result Showing E) (terms : Terms) (desk now : Desk) (id : ℤ) (awaited : Awaited) (answer : Answer) (awaits : Awaits) → id ≡ awaited.id → awaited.awaits ≡ awaits
+    → IfOk result (λ frame. IsTurned terms (request_turn terms desk id (request_of awaits) (Some (Had answer))) frame now)
     → IfOk result (λ frame. IsTurned terms (turn terms desk (deal_of awaited (Had answer))) frame now)
 unfolding turn
-answered_turn result terms desk now awaited answer awaits e h =
-    subst (λ (a : Awaits). IfOk result (λ frame. IsTurned terms (request_turn terms desk awaited.id (request_of a) (Some (Had answer))) frame now)) (sym e) h
+answered_turn result terms desk now id awaited answer awaits same e h =
+    subst (λ (a : Awaits). IfOk result (λ frame. IsTurned terms (request_turn terms desk awaited.id (request_of a) (Some (Had answer))) frame now)) (sym e)
+    (subst (λ (i : ℤ). IfOk result (λ frame. IsTurned terms (request_turn terms desk i (request_of awaits) (Some (Had answer))) frame now)) same h)
 
 lacking : (terms : Terms) (desk : Desk) (id : ℤ) (awaits : Awaits) → request_turn terms desk id (request_of awaits) (Some NoMemory) ≡ no_memory terms desk id
 lacking terms desk id await.Answer = refl

@@ -1,7 +1,6 @@
 //! Replies to requests whose calls were answered.
 
-ghost use Rattle.std.specs.Prelude.{◌≡◌, Some, IfOk, OnOk, OnErr, Err};
-ghost use Rattle.ig_base.specs.declared.memory.NoMemory.{NoMemory};
+ghost use Rattle.std.specs.Prelude.{◌≡◌, Some, IfOk, OnOk, OnErr};
 ghost use Rattle.ig_deals.specs.Deals.{Had};
 ghost use Rattle.ig_deals.specs.Turns.{turn};
 ghost use Rattle.ig_replies.specs.RunTerms.{terms_of, AreTerms};
@@ -87,7 +86,7 @@ impl Session {
     /// Ends the session for a lack of memory.
     pub(crate) fn run_out<T>(&mut self) -> Result<T, NoMemory>
         ensures spent { IsSpent self.old self.new self.old.out }
-        ensures err { result ≡ Err NoMemory }
+        ensures err { OnOk result ⊥ }
     {
         self.phase = Phase::OutOfMemory;
         Err(NoMemory)

@@ -58,7 +58,8 @@ impl Session {
     fn look_at_hello(&self) -> Coming
         requires phase { self.now.phase ≡ BeforeHello }
         requires none { self.now.waiting.frames ≡ [] }
-        ensures { coming_said result ≡ coming self.now }
+        ensures coming { coming_said result ≡ coming self.now }
+        ensures servable { IsServable result }
     {
         match self.frames.look(self.phase.least()) {
             Next::More { missing } => Coming::Misses(missing),
@@ -112,7 +113,7 @@ impl Session {
 
     /// Passes a hello that is refused for this reason. On an error the session is as before.
     pub(crate) fn refuse_hello(&mut self, fault: HelloFault) -> Result<(), NoMemory>
-        requires hello { ComesHello self.old }
+        requires { ComesHello self.old }
         ensures ok { OnOk result (self.new ≡ refused fault self.old) }
         ensures err { OnErr result (self.new ≡ self.old) }
     {

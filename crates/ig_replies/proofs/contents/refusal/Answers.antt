@@ -5,9 +5,6 @@ use Rattle.ig_replies.proofs.contents.refusal.Goals as goal
 pub returns-in-NotMine-clause-short : goal.returns-in-NotMine-clause-short
 returns-in-NotMine-clause-short c = reason_short reason.InvalidOperation
 
-pub returns-in-Unread-clause-short : goal.returns-in-Unread-clause-short
-returns-in-Unread-clause-short c = c.in_ok-malformed_at.ensures.short
-
 pub returns-in-Profile-clause-short : goal.returns-in-Profile-clause-short
 returns-in-Profile-clause-short c = reason_short (reason.Profile c.in-Profile.profile)
 

@@ -1,6 +1,8 @@
-use Rattle.std.proofs.Common.{◌≡◌, Bool, true, false, sym, subst, ◌∙◌}
-use Rattle.std.specs.Prelude.{IfOk}
+use Rattle.std.proofs.Common.{◌≡◌, Bool, true, false, sym, ap, subst, ◌∙◌}
+use Rattle.std.specs.Prelude.{IfOk, length, nat_le}
 use Rattle.ig_wire.specs.declared.reason.Reason.TheVariants as reason
+use Rattle.ig_wire.specs.Limits.{most_cursors}
+use Rattle.ig_deals.specs.Desk.{has_more}
 use Rattle.ig_deals.specs.Turns.{Turn}
 use Rattle.ig_replies.specs.RunTerms.{terms_of}
 use Rattle.ig_replies.specs.Turned.{IsTurned}
@@ -10,3 +12,9 @@ use Rattle.ig_replies.proofs.turns.first_page.Goals as goal
 
 pub tell-requires-clause-text : goal.tell-requires-clause-text
 tell-requires-clause-text c = reason_short reason.TooManyCursors
+
+pub returns-then-not-has_more-clause-ok : goal.returns-then-not-has_more-clause-ok
+returns-then-not-has_more-clause-ok c =
+    let last : has_more c.args.cursor ≡ false = sym c.has_more.ensures ∙ c.if-not-has_more.true in
+    subst (λ (t : Turn). IfOk c.show_first.result (λ frame. IsTurned (terms_of c.args.terms.now) t frame c.show_first.new.desk))
+    (sym (one_page (terms_of c.args.terms.now) c.args.desk.now c.args.id c.args.minor c.args.cursor last)) c.show_first.ensures.ok

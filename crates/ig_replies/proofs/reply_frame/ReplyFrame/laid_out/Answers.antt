@@ -4,8 +4,8 @@ use Rattle.ig_replies.proofs.reply_frame.ReplyFrame.laid_out.Goals as goal
 
 pub overflow_cast-lead_len : goal.overflow_cast-lead_len
 overflow_cast-lead_len c =
-    (lead_exact c.args.version c.head_at.result.version c.args.reply c.args.body_len c.head_at.result.view c.message_len.result
-    c.head_at.ensures.version c.head_at.ensures.view c.requires.len c.requires.fits c.message_len.ensures).1
+    (lead_exact c.args.version c.head_at.result.version c.args.reply c.args.body_len c.head_at.result.view c.message_len-lead_len.result
+    c.head_at.ensures.version c.head_at.ensures.view c.requires.len c.requires.fits c.message_len-lead_len.ensures).1
 
 pub invariant_of-result : goal.invariant_of-result
 invariant_of-result c = (
@@ -13,8 +13,8 @@ invariant_of-result c = (
     may = c.requires.shown;
     body = c.requires.len;
     fits = c.requires.fits;
-    lead = (lead_exact c.args.version c.head_at.result.version c.args.reply c.args.body_len c.head_at.result.view c.message_len.result
-        c.head_at.ensures.version c.head_at.ensures.view c.requires.len c.requires.fits c.message_len.ensures).0;
+    lead = (lead_exact c.args.version c.head_at.result.version c.args.reply c.args.body_len c.head_at.result.view c.message_len-lead_len.result
+        c.head_at.ensures.version c.head_at.ensures.view c.requires.len c.requires.fits c.message_len-lead_len.ensures).0;
   },
   omega arith,
 )
