@@ -31,9 +31,6 @@ take_piece-requires-clause-paused g c = c.pieces.invariant.going.paused
 pub take_piece-requires-clause-none : goal.take_piece-requires-clause-none
 take_piece-requires-clause-none g c = c.pieces.invariant.going.none_out
 
-pub take_piece-requires-clause-room : goal.take_piece-requires-clause-room
-take_piece-requires-clause-room g c = c.pieces.invariant.room
-
 pub take_piece-requires-clause-within : goal.take_piece-requires-clause-within
 take_piece-requires-clause-within g c = c.pieces.invariant.going.within
 
@@ -52,8 +49,8 @@ returns-in-Err-clause-served g c =
     c.pieces.taken c.in-Err.end going c.in-Err.ensures.takes
 
 pub answer_all-requires : goal.answer_all-requires
-answer_all-requires g c = taken_none g.C.Caller.stands (g.C.Caller.seat c.args.caller.now) c.args.cfg.now c.args.caller.now c.pieces.caller c.pieces.session c.take_piece.new.session (g.L.Source.source c.args.link.now) (g.L.Source.source c.pieces.link) (g.L.Source.source c.take_piece.new.source) (g.L.Sink.sink c.args.link.now) (g.L.Sink.sink c.pieces.link)
-    c.pieces.taken c.in-Ok-take_piece.more c.pieces.invariant.going c.in-Ok-take_piece.ensures.takes
+answer_all-requires g c = record { none = taken_none g.C.Caller.stands (g.C.Caller.seat c.args.caller.now) c.args.cfg.now c.args.caller.now c.pieces.caller c.pieces.session c.take_piece.new.session (g.L.Source.source c.args.link.now) (g.L.Source.source c.pieces.link) (g.L.Source.source c.take_piece.new.source) (g.L.Sink.sink c.args.link.now) (g.L.Sink.sink c.pieces.link)
+    c.pieces.taken c.in-Ok-take_piece.more c.pieces.invariant.going c.in-Ok-take_piece.ensures.takes }
 
 pub pieces-smaller : goal.pieces-smaller
 pieces-smaller g c = let takes = c.in-Ok-take_piece.ensures.takes in omega (arith, takes.cause.0, takes.cause.1)
@@ -87,4 +84,22 @@ returns-in-Err-answer_all-clause-served g c =
     subst (λ (x : SourceState). Served g.C.Caller.stands (g.C.Caller.seat c.args.caller.now) c.args.cfg.now c.args.caller.now c.answer_all.new.caller (g.L.Source.source c.args.link.now) x (g.L.Sink.sink c.args.link.now) (g.L.Sink.sink c.answer_all.new.sink) c.in-Err-answer_all.end) (sym sources)
     (answer_ended g.C.Caller.stands (g.C.Caller.seat c.args.caller.now) c.args.cfg.now c.args.caller.now c.pieces.caller c.answer_all.new.caller c.pieces.session c.take_piece.new.session c.answer_all.new.session (g.L.Source.source c.args.link.now) (g.L.Source.source c.pieces.link) (g.L.Source.source c.take_piece.new.source) (g.L.Sink.sink c.args.link.now) (g.L.Sink.sink c.take_piece.new.source) (g.L.Sink.sink c.answer_all.new.sink)
     c.pieces.taken c.in-Ok-take_piece.more c.in-Err-answer_all.end going c.in-Ok-take_piece.ensures.takes
-    (subst (λ (s : ℕ). AnswersAll g.C.Caller.stands s c.pieces.caller c.answer_all.new.caller c.take_piece.new.session c.answer_all.new.session (g.L.Sink.sink c.take_piece.new.source) (g.L.Sink.sink c.answer_all.new.sink) (Err c.in-Err-answer_all.end)) c.pieces.invariant.seat c.in-Err-answer_all.ensures.answers))
+    (subst (λ (s : ℕ). AnswersAll {A = Unit {0}} g.C.Caller.stands s c.pieces.caller c.answer_all.new.caller c.take_piece.new.session c.answer_all.new.session (g.L.Sink.sink c.take_piece.new.source) (g.L.Sink.sink c.answer_all.new.sink) (Err c.in-Err-answer_all.end)) c.pieces.invariant.seat c.in-Err-answer_all.ensures.answers))
+
+pub returns-in-Err-clause-seat : goal.returns-in-Err-clause-seat
+returns-in-Err-clause-seat g c = c.pieces.invariant.seat
+
+pub returns-in-Err-answer_all-clause-seat : goal.returns-in-Err-answer_all-clause-seat
+returns-in-Err-answer_all-clause-seat g c = c.answer_all.ensures.seat ∙ c.pieces.invariant.seat
+
+pub returns-in-Err-clause-lent : goal.returns-in-Err-clause-lent
+returns-in-Err-clause-lent g c = c.pieces.invariant.lent
+
+pub returns-in-Err-answer_all-clause-lent : goal.returns-in-Err-answer_all-clause-lent
+returns-in-Err-answer_all-clause-lent g c = c.answer_all.ensures.lent ∙ c.pieces.invariant.lent
+
+pub returns-in-Err-clause-kept : goal.returns-in-Err-clause-kept
+returns-in-Err-clause-kept g c = c.pieces.invariant.kept
+
+pub returns-in-Err-answer_all-clause-kept : goal.returns-in-Err-answer_all-clause-kept
+returns-in-Err-answer_all-clause-kept g c = c.answer_all.ensures.kept ∙ c.pieces.invariant.kept
