@@ -44,8 +44,10 @@ returns-in-Err-clause-served g c = take_ended g.C.Caller.stands (g.C.Caller.seat
     c.pieces.taken c.in-Err.end c.pieces.invariant.going c.in-Err.ensures.takes
 
 pub answer_all-requires : goal.answer_all-requires
-answer_all-requires g c = record { none = taken_none g.C.Caller.stands (g.C.Caller.seat c.args.caller.now) c.args.cfg.now c.args.caller.now c.pieces.caller c.pieces.session c.take_piece.new.session (g.S.Source.source c.args.source.now) (g.S.Source.source c.pieces.source) (g.S.Source.source c.take_piece.new.source) (g.K.Sink.sink c.args.sink.now) (g.K.Sink.sink c.pieces.sink)
-    c.pieces.taken c.in-Ok-take_piece.more c.pieces.invariant.going c.in-Ok-take_piece.ensures.takes }
+answer_all-requires g c = record {
+  none = taken_none g.C.Caller.stands (g.C.Caller.seat c.args.caller.now) c.args.cfg.now c.args.caller.now c.pieces.caller c.pieces.session c.take_piece.new.session (g.S.Source.source c.args.source.now) (g.S.Source.source c.pieces.source) (g.S.Source.source c.take_piece.new.source) (g.K.Sink.sink c.args.sink.now) (g.K.Sink.sink c.pieces.sink)
+      c.pieces.taken c.in-Ok-take_piece.more c.pieces.invariant.going c.in-Ok-take_piece.ensures.takes;
+}
 
 pub pieces-smaller : goal.pieces-smaller
 pieces-smaller g c = let takes = c.in-Ok-take_piece.ensures.takes in omega (arith, takes.cause.0, takes.cause.1)

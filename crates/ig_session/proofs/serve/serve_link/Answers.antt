@@ -49,8 +49,10 @@ returns-in-Err-clause-served g c =
     c.pieces.taken c.in-Err.end going c.in-Err.ensures.takes
 
 pub answer_all-requires : goal.answer_all-requires
-answer_all-requires g c = record { none = taken_none g.C.Caller.stands (g.C.Caller.seat c.args.caller.now) c.args.cfg.now c.args.caller.now c.pieces.caller c.pieces.session c.take_piece.new.session (g.L.Source.source c.args.link.now) (g.L.Source.source c.pieces.link) (g.L.Source.source c.take_piece.new.source) (g.L.Sink.sink c.args.link.now) (g.L.Sink.sink c.pieces.link)
-    c.pieces.taken c.in-Ok-take_piece.more c.pieces.invariant.going c.in-Ok-take_piece.ensures.takes }
+answer_all-requires g c = record {
+  none = taken_none g.C.Caller.stands (g.C.Caller.seat c.args.caller.now) c.args.cfg.now c.args.caller.now c.pieces.caller c.pieces.session c.take_piece.new.session (g.L.Source.source c.args.link.now) (g.L.Source.source c.pieces.link) (g.L.Source.source c.take_piece.new.source) (g.L.Sink.sink c.args.link.now) (g.L.Sink.sink c.pieces.link)
+      c.pieces.taken c.in-Ok-take_piece.more c.pieces.invariant.going c.in-Ok-take_piece.ensures.takes;
+}
 
 pub pieces-smaller : goal.pieces-smaller
 pieces-smaller g c = let takes = c.in-Ok-take_piece.ensures.takes in omega (arith, takes.cause.0, takes.cause.1)
