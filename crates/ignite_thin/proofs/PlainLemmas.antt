@@ -14,7 +14,7 @@ use Rattle.ig_session.specs.StandsAlone.{StandsAlone}
 use Rattle.ig_session.specs.Serving.{Served}
 use Rattle.ig_session.specs.declared.caller.Alone.{Alone}
 use Rattle.ignite_thin.specs.Words.{pipe_names}
-use Rattle.ignite_thin.specs.Statuses.{status_of}
+use Rattle.ignite_thin.specs.Statuses.{status_of, status_of_start}
 use Rattle.ignite_thin.specs.Plain.{one_node, PipeRuns, IsUsage, RunsPipe, RunsPlain}
 
 -- what was served by a caller over caches without rows has a legal history
@@ -63,18 +63,18 @@ pipe_none names source sink = record {
   named = λ no. absurd (no refl);
 }
 
--- names that are refused are no names to start with
-pub cannot_start : (names : List (List ℕ)) (f : StartFault) → (f ≡ fault.NoMemory → ⊥) → IsStartFault names f → ¬ (CanStart names)
-cannot_start names fault.TooMany other is can = omega (arith, is, can.few)
-cannot_start names (fault.Empty at) other is can = can.no_empty at is.1.here
-cannot_start names (fault.Taken at) other is can = can.distinct at is.2.here
-cannot_start names fault.NoMemory other is can = other refl
-
 pub named : (words names : List (List ℕ)) (source source' : SourceState) (sink sink' : SinkState) (status : ℕ) → Some names ≡ pipe_names words
     → PipeRuns names source source' sink sink' status → RunsPlain words source source' sink sink' status
 named words names source source' sink sink' status e runs = subst (λ (n : Option (List (List ℕ))). RunsPipe n source source' sink sink' status) e (inl runs)
 
 -- names with which no caches start are no command
-pub refused : (words names : List (List ℕ)) (source : SourceState) (sink : SinkState) → Some names ≡ pipe_names words → ¬ (CanStart names) → RunsPlain words source source sink sink 1
-refused words names source sink e no =
-    subst (λ (n : Option (List (List ℕ))). RunsPipe n source source sink sink 1) e (inr (no, record { status_is = refl; source_is = refl; sink_is = refl }))
+refused : (words names : List (List ℕ)) (source : SourceState) (sink : SinkState) → Some names ≡ pipe_names words → ¬ (CanStart names) → RunsPlain words source source sink sink 1
+refused words names source sink e cannot =
+    subst (λ (n : Option (List (List ℕ))). RunsPipe n source source sink sink 1) e (inr (cannot, record { status_is = refl; source_is = refl; sink_is = refl }))
+
+-- no caches started: for lack of memory, or since the names are refused
+pub not_started : (words names : List (List ℕ)) (source : SourceState) (sink : SinkState) (f : StartFault) → Some names ≡ pipe_names words → IsStartFault names f → RunsPlain words source source sink sink (status_of_start f)
+not_started words names source sink fault.TooMany e is = refused words names source sink e (λ can. omega (arith, is, can.few))
+not_started words names source sink (fault.Empty at) e is = refused words names source sink e (λ can. can.no_empty at is.1.here)
+not_started words names source sink (fault.Taken at) e is = refused words names source sink e (λ can. can.distinct at is.2.here)
+not_started words names source sink fault.NoMemory e is = named words names source source sink sink 5 e (pipe_none names source sink)

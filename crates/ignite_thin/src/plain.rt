@@ -3,10 +3,10 @@
 ghost use Rattle.std.specs.Prelude.{◌≡◌, map, string_bytes, IfOk};
 ghost use Rattle.ignite_thin.specs.Plain.{RunsPlain};
 
-use crate::statuses::{NO_MEMORY, USAGE, end_status};
+use crate::statuses::{NO_MEMORY, USAGE, end_status, start_status};
 use crate::words::pipe_words;
 use ig_base::{NoMemory, Text};
-use ig_caches::{Caches, StartFault};
+use ig_caches::Caches;
 use ig_link::{Sink, Source};
 use ig_session::{Alone, SessionCfg, serve_ends};
 use std::alloc::Global;
@@ -53,7 +53,6 @@ pub fn run_plain<S: Source, K: Sink>(
             let mut caller = Alone::new(caches);
             end_status(serve_ends(alloc, &mut caller, source, sink, &ONE_NODE))
         }
-        Err(StartFault::NoMemory) => NO_MEMORY,
-        Err(_) => USAGE,
+        Err(fault) => start_status(fault),
     }
 }
