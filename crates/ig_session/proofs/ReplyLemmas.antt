@@ -1,6 +1,6 @@
 -- Requests that are replied, from the parts of a session. `held` are the parts, and `now` is the session.
-use Rattle.std.proofs.Common.{◌≡◌, ◌+◌, ◌<◌, ◌≤◌, ℤ, List, [], ◌∷◌, ◌++◌, length, Option, None, Some, Result, Ok, Err, refl, sym, ap, ◌∙◌, subst, arith, length-append, inl}
-use Rattle.std.specs.Prelude.{IfOk, OnOk, OnErr}
+use Rattle.std.proofs.Common.{◌≡◌, ℕ, ◌+◌, ◌<◌, ◌≤◌, ℤ, List, [], ◌∷◌, ◌++◌, length, Option, None, Some, Result, Ok, Err, refl, sym, ap, ◌∙◌, subst, arith, length-append, inl}
+use Rattle.std.specs.Prelude.{IfOk, OnOk, OnErr, IsSome}
 use Rattle.ig_wire.specs.declared.ask.AskFault.{AskFault}
 use Rattle.ig_wire.specs.declared.head.Fault.{Fault}
 use Rattle.ig_caches.specs.declared.call.Call.{Call}
@@ -16,12 +16,15 @@ use Rattle.ig_replies.specs.Showing.{Showing, after_push}
 use Rattle.ig_replies.specs.Turned.{IsTurned}
 use Rattle.ig_session.specs.declared.phase.Phase.TheVariants.{Open}
 use Rattle.ig_session.specs.declared.awaited.Awaited.{Awaited}
-use Rattle.ig_session.specs.Awaiting.{deal_of}
+use Rattle.ig_session.specs.Awaiting.{deal_of, awaited_at, place_of_nth, without_nth}
 use Rattle.ig_session.specs.States.{State}
 use Rattle.ig_session.specs.Comings.{Greets, coming}
 use Rattle.ig_session.specs.Soundness.{IsSound}
 use Rattle.ig_session.specs.Requests.{asked_said, ComesRequest}
 use Rattle.ig_session.specs.Steps.{said, settled_in, answered, CanDraw, Takes, IsSpent, Lacks}
+use Rattle.ig_session.specs.StepsAhead.{answered_nth}
+use Rattle.ig_session.proofs.NthLemmas.{nth_none, without_fewer}
+use Rattle.ig_session.proofs.NextLemmas.{nth_answered}
 use Rattle.ig_session.proofs.SoundLemmas.{desk_sound, fewer_draw, fewer_sound, page_next, close_next, turn_sound, undrawn_sound}
 use Rattle.ig_session.proofs.ChangeLemmas.{without_is_desk}
 use Rattle.ig_session.proofs.ComingLemmas.{comes_as}
@@ -71,9 +74,9 @@ pub never_ok : {A E : Type 0} (P : A → Type 0) (result : Result A E) → OnOk 
 never_ok P (Ok done) h = absurd h
 never_ok P (Err lack) h = tt
 
-pub never_on : {A E P : Type 0} (result : Result A E) → OnOk result ⊥ → OnOk result P
-never_on (Ok done) h = absurd h
-never_on (Err lack) h = tt
+pub never_on : {A E : Type 0} (P : Type 0) (result : Result A E) → OnOk result ⊥ → OnOk result P
+never_on P (Ok done) h = absurd h
+never_on P (Err lack) h = tt
 
 -- ---- calls that are out
 
@@ -96,9 +99,8 @@ takes_of result s new terms id shown asked read same is given =
     (subst (λ (i : ℤ). IfOk result (λ call. Takes terms (asked_said i read) call s new)) same given)
 
 -- a hello was not answered for a lack of memory
-pub lacks_hello : {A E : Type 0} (result : Result A E) (s new : State) (greeting : Greeting) → Greets greeting ≡ coming s → OnErr result (new ≡ s) → OnErr result (Lacks s new)
-lacks_hello result s new greeting comes same =
-    map_err result (λ (e : new ≡ s). record { none_waits = (comes_as s (Greets greeting) (λ never. cc) (sym comes)).none_waits; left = inl e }) same
+pub lacks_hello : (s new : State) (greeting : Greeting) → Greets greeting ≡ coming s → new ≡ s → Lacks s new
+lacks_hello s new greeting comes same = record { none_waits = (comes_as s (Greets greeting) (λ never. cc) (sym comes)).none_waits; left = inl same }
 
 module _ (held now : State) (is : held ≡ now) where
   -- ---- a request without a call
@@ -158,3 +160,32 @@ module _ (held now : State) (is : held ≡ now) where
 
   pub only_sound : (awaited : Awaited) (less : List Awaited) → held.out ≡ less ++ awaited ∷ [] → IsSound held → IsSound (record held { out = less })
   only_sound awaited less out sound = fewer_sound held less (omega (arith, ap length out, length-append less (awaited ∷ []))) sound
+
+  -- ---- a call with a number that was out
+
+  pub nth_sound : (nth : ℕ) (awaited : Awaited) (less : List Awaited) → awaited_at held.out nth ≡ Some awaited → less ≡ without_nth held.out nth → IsSound held → IsSound (record held { out = less })
+  nth_sound nth awaited less found left sound =
+      let fewer : length (without_nth held.out nth) < length held.out = without_fewer nth held.out awaited found in
+      fewer_sound held less (omega (arith, fewer, ap length left)) sound
+
+  pub nth_draws : (nth : ℕ) (awaited : Awaited) (less : List Awaited) → awaited_at held.out nth ≡ Some awaited → less ≡ without_nth held.out nth → IsSound held → CanDraw (record held { out = less })
+  nth_draws nth awaited less found left sound =
+      let fewer : length (without_nth held.out nth) < length held.out = without_fewer nth held.out awaited found in
+      fewer_draw held less (omega (arith, fewer, ap length left)) sound
+
+  pub nth_settled : {A E : Type 0} (result : Result A E) (new : State) (nth : ℕ) (awaited : Awaited) (less : List Awaited) (got : Got) → awaited_at held.out nth ≡ Some awaited
+      → less ≡ without_nth held.out nth → OnOk result (new ≡ settled_in held.phase (record held { out = less }) awaited got) → OnOk result (new ≡ answered_nth now nth got)
+  nth_settled result new nth awaited less got found left given =
+      map_ok result (λ (e : new ≡ settled_in held.phase (record held { out = less }) awaited got).
+      e ∙ ap (λ (l : List Awaited). settled_in held.phase (record held { out = l }) awaited got) left ∙ sym (nth_answered held nth awaited got found) ∙ ap (λ (s : State). answered_nth s nth got) is) given
+
+  pub nth_spent : {A E : Type 0} (result : Result A E) (new : State) (nth : ℕ) (less : List Awaited) → less ≡ without_nth held.out nth
+      → OnErr result (IsSpent (record held { out = less }) new less) → OnErr result (IsSpent now new (without_nth now.out nth))
+  nth_spent result new nth less left given =
+      map_err result (λ (e : IsSpent (record held { out = less }) new less). subst (λ (s : State). IsSpent s new (without_nth s.out nth)) is (spent_out held new less (without_nth held.out nth) left e)) given
+
+  pub nth_absent : {P : Type 0} (nth : ℕ) → place_of_nth held.out nth ≡ None → IsSome (awaited_at now.out nth) → P
+  nth_absent nth none some = absurd (not_some (awaited_at held.out nth) (nth_none nth held.out none) (subst (λ (s : State). IsSome (awaited_at s.out nth)) (sym is) some)) where
+    not_some : (o : Option Awaited) → o ≡ None → IsSome o → ⊥
+    not_some None e some = cc
+    not_some (Some a) e some = cc

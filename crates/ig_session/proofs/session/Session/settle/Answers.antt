@@ -43,17 +43,17 @@ show-requires-in-Ok-reply_to c = turned_fresh (terms_of c.in-Open.terms) _ c.in-
 
 pub returns-in-Ok-reply_to-clause-ok : goal.returns-in-Ok-reply_to-clause-ok
 returns-in-Ok-reply_to-clause-ok c =
-    subst (λ (g : Got). OnOk c.show.result (c.show.new.self ≡ settled_in c.args.self.now.phase c.args.self.now c.args.awaited g)) (sym (ap given c.in-Ok.is))
-    (settled_now _ _ c.self.view_is c.show.result c.show.new.self c.in-Open.terms c.args.awaited (Had c.in-Ok.given) c.in-Ok-reply_to.frame c.reply_to.new.desk c.in-Open.is c.in-Ok-reply_to.ensures.ok c.show.ensures.ok)
+    subst (λ (g : Got). OnOk c.show-in-Ok-reply_to.result (c.show-in-Ok-reply_to.new.self ≡ settled_in c.args.self.now.phase c.args.self.now c.args.awaited g)) (sym (ap given c.in-Ok.is))
+    (settled_now _ _ c.self.view_is c.show-in-Ok-reply_to.result c.show-in-Ok-reply_to.new.self c.in-Open.terms c.args.awaited (Had c.in-Ok.given) c.in-Ok-reply_to.frame c.reply_to.new.desk c.in-Open.is c.in-Ok-reply_to.ensures.ok c.show-in-Ok-reply_to.ensures.ok)
 
 pub returns-in-Ok-reply_to-clause-err : goal.returns-in-Ok-reply_to-clause-err
-returns-in-Ok-reply_to-clause-err c = spent_now _ _ c.self.view_is c.show.result c.show.new.self c.reply_to.new.desk c.show.ensures.err
+returns-in-Ok-reply_to-clause-err c = spent_now _ _ c.self.view_is c.show-in-Ok-reply_to.result c.show-in-Ok-reply_to.new.self c.reply_to.new.desk c.show-in-Ok-reply_to.ensures.err
 
 pub invariant_of-self-in-Err-reply_to : goal.invariant_of-self-in-Err-reply_to
 invariant_of-self-in-Err-reply_to c = same_desk_sound _ c.reply_to.new.desk c.in-Err-reply_to.ensures.err c.self.invariant
 
 pub returns-in-Err-reply_to-clause-ok : goal.returns-in-Err-reply_to-clause-ok
-returns-in-Err-reply_to-clause-ok c = never_on c.run_out.result c.run_out.ensures.err
+returns-in-Err-reply_to-clause-ok c = never_on _ c.run_out.result c.run_out.ensures.err
 
 pub returns-in-Err-reply_to-clause-err : goal.returns-in-Err-reply_to-clause-err
 returns-in-Err-reply_to-clause-err c = spent_now _ _ c.self.view_is c.run_out.result c.run_out.new.self c.reply_to.new.desk (on_err c.run_out.result c.run_out.ensures.spent)
