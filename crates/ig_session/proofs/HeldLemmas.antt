@@ -123,8 +123,11 @@ module _ (held now : State) (is : held ≡ now) where
   clash : false ≡ true → ⊥
   clash e = cc
 
+  pub some_now : (empty : Bool) → IsTrue empty ↔ (held.waiting.frames ≡ []) → empty ≡ false → now.waiting.frames ≡ [] → ⊥
+  some_now empty both e none = clash (sym e ∙ both.1 (ap (λ (s : State). s.waiting.frames) is ∙ none))
+
   pub replies_now : (empty : Bool) → IsTrue empty ↔ (held.waiting.frames ≡ []) → empty ≡ false → Replies ≡ coming now
-  replies_now empty both e = sym (replies_first now (λ none. clash (sym e ∙ both.1 (ap (λ (s : State). s.waiting.frames) is ∙ none))))
+  replies_now empty both e = sym (replies_first now (some_now empty both e))
 
   -- ---- bodies
 

@@ -1,6 +1,6 @@
 -- The steps of a session of which several calls may be out.
 use Rattle.std.proofs.Common.{◌≡◌, ◌⊎◌, ℕ, Bool, true, false, List, [], ◌∷◌, Result, Ok, Err, refl, sym, ap, ◌∙◌, subst, inl, inr}
-use Rattle.std.specs.Prelude.{◌&&◌, ◌||◌, if◌then◌else◌}
+use Rattle.std.specs.Prelude.{◌&&◌, ◌||◌, if◌then◌else◌, IfOk}
 use Rattle.std.proofs.lemmas.Bool.{cases_Bool}
 use Rattle.ig_base.specs.Frames.{client, Front, Body, Bad, Incomplete}
 use Rattle.ig_frame.specs.Streams.{front_at}
@@ -16,6 +16,7 @@ use Rattle.ig_session.specs.declared.step.Ahead.TheVariants as steps
 use Rattle.ig_session.specs.declared.awaited.Awaited.{Awaited}
 use Rattle.ig_session.specs.States.{State}
 use Rattle.ig_session.specs.Comings.{Coming, Replies, Stops, Misses, Greets, Asks, found, coming_in, coming}
+use Rattle.ig_session.specs.Requests.{HandsRunnableAhead}
 use Rattle.ig_session.specs.StepsAhead.{waits_for_all, has_out, is_full, is_held_up, step_on, step_ahead_to, step_ahead, stop_or_wait}
 use Rattle.ig_session.proofs.LookLemmas.{replies_first, next_by_phase}
 
@@ -125,3 +126,23 @@ steps_on limit s next is full waits = elim (cases_none s.waiting.frames) [
   no_wait : (out : List Awaited) → ((out ≡ [] → ⊥) → waits_for_all next ≡ false) → (has_out out && waits_for_all next) ≡ false
   no_wait [] waits = refl
   no_wait (a ∷ out) waits = waits (λ e. cc)
+
+-- ---- as the code answers
+
+pub full_answer : (limit : ℕ) (s : State) (answer : Ahead) → answer ≡ stop_or_wait s.phase → s.waiting.frames ≡ [] → is_full limit s.out ≡ true → (answer, s) ≡ step_ahead limit s
+full_answer limit s answer is none full = ap (λ (a : Ahead). (a, s)) is ∙ full_steps limit s none full
+
+waits_by : (phase : Phase) → HandsRunnableAhead (stop_or_wait phase)
+waits_by BeforeHello = tt
+waits_by (Open terms) = tt
+waits_by (Refused fault) = tt
+waits_by OutOfMemory = tt
+
+-- no call is handed out
+pub waits_runnable : (phase : Phase) (answer : Ahead) → answer ≡ stop_or_wait phase → HandsRunnableAhead answer
+waits_runnable phase answer is = subst HandsRunnableAhead (sym is) (waits_by phase)
+
+pub goes_on_as : {E : Type 0} (result : Result Ahead E) (limit : ℕ) (s new : State) (next : Coming) → step_ahead limit s ≡ step_on s next
+    → IfOk result (λ answer. (answer, new) ≡ step_on s next) → IfOk result (λ answer. (answer, new) ≡ step_ahead limit s)
+goes_on_as (Ok answer) limit s new next same given = given ∙ sym same
+goes_on_as (Err lack) limit s new next same given = tt

@@ -36,4 +36,5 @@ pub mod SinceLemmas
 pub mod SendLemmas
 pub mod ProgressLemmas
 pub mod AnswerAllLemmas
+pub mod ReplyLemmas
 pub mod LoopLemmas

@@ -70,6 +70,7 @@ impl Session {
         ensures err { OnErr result (Lacks self.old self.new) }
         ensures sound { IsSound self.old }
     {
+        self.sound_now();
         if self.must_wait_for_one(limit) {
             return Ok(self.stop_or_wait());
         }

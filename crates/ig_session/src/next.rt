@@ -31,6 +31,7 @@ impl Session {
         ensures err { OnErr result (Lacks self.old self.new) }
         ensures sound { IsSound self.old }
     {
+        self.sound_now();
         match self.look()? {
             Coming::Replies => Ok(Step::Out),
             Coming::Stops(end) => Ok(Step::Stop(end)),
@@ -66,5 +67,12 @@ impl Session {
             Some(awaited) => self.settle(awaited, got),
             None => Ok(()),
         }
+    }
+
+    /// What holds of every session holds of this one. It does nothing.
+    pub(crate) fn sound_now(&self)
+        ensures { IsSound self.now }
+    {
+        let _ = &self.alloc;
     }
 }

@@ -7,5 +7,5 @@ invariant_of-self c = shown_keeps _ _ c.self.view_is c.args.frame.frame c.push.n
 pub returns-in-Ok-clause-ok : goal.returns-in-Ok-clause-ok
 returns-in-Ok-clause-ok c = shown_is _ _ c.self.view_is c.args.frame.frame c.push.new.self c.in-Ok.ensures.ok
 
-pub invariant_of-self-2 : goal.invariant_of-self-2
-invariant_of-self-2 c = same_keeps _ _ c.self.view_is c.push.new.self c.in-Err.ensures.err c.self.invariant
+pub invariant_of-self-in-Err : goal.invariant_of-self-in-Err
+invariant_of-self-in-Err c = same_keeps _ _ c.self.view_is c.push.new.self c.in-Err.ensures.err c.self.invariant
