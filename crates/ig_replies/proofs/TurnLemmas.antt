@@ -1,6 +1,6 @@
 -- What may be told, and the cursors of turns.
 use Rattle.std.proofs.Common.{◌≡◌, ℕ, suc, ◌<◌, ◌≤◌, ℤ, pos, Bool, true, false, List, [], ◌∷◌, ◌++◌, length, Option, None, Some, refl, sym, ap, subst, ◌∙◌, append-nil, arith}
-use Rattle.std.specs.Prelude.{◌&&◌, nat_le, if◌then◌else◌}
+use Rattle.std.specs.Prelude.{◌&&◌, nat_le, option_map, if◌then◌else◌}
 use Rattle.std.proofs.lemmas.Bool.{cond-true, cond-false}
 use Rattle.std.proofs.lemmas.Bool.Decides.{Decides-int_eq}
 use Rattle.ig_wire.specs.declared.reason.Reason.TheVariants as reason
@@ -17,13 +17,15 @@ use Rattle.ig_caches.specs.declared.answer.Answer.{Answer}
 use Rattle.ig_caches.specs.declared.answer.Outcome.{Outcome}
 use Rattle.ig_caches.specs.declared.answer.Outcome.TheVariants as outcome
 use Rattle.ig_caches.specs.declared.request.Request.TheVariants.{Scan}
-use Rattle.ig_caches.specs.declared.request.Shown.TheVariants.{Page}
+use Rattle.ig_caches.specs.declared.request.Page.{Page as ShownPage}
+use Rattle.ig_caches.specs.declared.request.Shown.TheVariants.{Page, Out}
 use Rattle.ig_deals.specs.Deals.{Had}
 use Rattle.ig_deals.specs.Telling.{told_after}
-use Rattle.ig_deals.specs.Desk.{Cursor, Desk, page_of, has_more, after_page, cursor_at, without}
+use Rattle.ig_deals.specs.Desk.{Cursor, Desk, page_of, page_shown, has_more, after_page, paged, cursor_at, without}
 use Rattle.ig_deals.specs.Faults.{fault_of}
 use Rattle.ig_deals.specs.Replies.{Reply, Shows, Fails, reply_frame, fits, shortened}
-use Rattle.ig_deals.specs.Turns.{Terms, telling, answers, content_of, page_content, open_after, first_page, scanned, cursor_for, pairs_in, scan_answer, next_page, request_turn}
+use Rattle.ig_deals.specs.Turns.{Terms, untold, close_turn, telling, answers, content_of, page_content, open_after, first_page, scanned, cursor_for, pairs_in, scan_answer, next_page, next_turn, request_turn}
+use Rattle.ig_deals.specs.Laws.{IsDesk}
 use Rattle.ig_deals.proofs.CursorLemmas.{found_has, without_none, without_fewer}
 use Rattle.ig_deals.proofs.TakeLemmas.{without_absent}
 use Rattle.ig_replies.specs.Showing.{Showing, showing}
@@ -54,6 +56,18 @@ taken_is_alone k cs c found =
 pub taken_leaves_room : (k : ℤ) (cs : List Cursor) (c : Cursor) → cursor_at cs k ≡ Some c → length cs ≤ most_cursors
     → length (without cs k) < most_cursors
 taken_leaves_room k cs c found few = omega (arith, without_fewer k cs c found, few)
+
+-- ---- the cursor of a scan
+
+-- it has the next number, which no open cursor has
+pub new_is_alone : (desk before : Desk) (cursor left : Cursor) → IsDesk desk → cursor.number ≡ desk.next → before.cursors ≡ desk.cursors
+    → left ≡ after_page cursor → cursor_at before.cursors (pos left.number) ≡ None
+new_is_alone desk before cursor left is next before_is left_is =
+    let within : desk.next ≤ desk.next = omega arith in
+    let number : left.number ≡ desk.next = ap (λ (c : Cursor). c.number) left_is ∙ next in
+    ap (λ (cs : List Cursor). cursor_at cs (pos left.number)) before_is
+    ∙ ap (λ (n : ℕ). cursor_at desk.cursors (pos n)) number
+    ∙ is.unused desk.next within
 
 -- ---- scans
 
@@ -180,9 +194,72 @@ one_opens desk opens cursor e =
     ap (λ (cs : List Cursor). record desk { cursors = cs })
     (ap (λ (l : List Cursor). desk.cursors ++ l) (sym (cond-true opens (cursor ∷ []) [] e)))
 
+-- ---- pages of open cursors
+
+-- a page was taken out of a cursor, which was open
+pub paged_is : (o : Option Cursor) (page : ShownPage) (left : Cursor) → option_map paged o ≡ Some (page, left)
+    → (cursor : Cursor) × (o ≡ Some cursor) × (page ≡ page_shown None cursor) × (left ≡ after_page cursor)
+paged_is None page left e = absurd (clash e) where
+  clash : {p : ShownPage × Cursor} → None ≡ Some p → ⊥
+  clash h = cc
+paged_is (Some cursor) page left e =
+    let same : paged cursor ≡ (page, left) = inside e in
+    (cursor, refl, ap (λ (p : ShownPage × Cursor). p.0) (sym same), ap (λ (p : ShownPage × Cursor). p.1) (sym same)) where
+      inside : {p q : ShownPage × Cursor} → Some p ≡ Some q → p ≡ q
+      inside h = cc
+
+-- none was open
+pub none_paged : (o : Option Cursor) → option_map paged o ≡ None → o ≡ None
+none_paged None e = refl
+none_paged (Some cursor) e = absurd (clash e) where
+  clash : {p : ShownPage × Cursor} → Some p ≡ None → ⊥
+  clash h = cc
+
 -- ---- requests on an open cursor
 
 -- no cursor has the number: the desk stays as it is
 pub none_taken : (desk now : Desk) (k : ℤ) → cursor_at desk.cursors k ≡ None → now ≡ record desk { cursors = without desk.cursors k } → now ≡ desk
 none_taken desk now k none is =
     is ∙ ap (λ (cs : List Cursor). record desk { cursors = cs }) (without_absent k desk.cursors none)
+
+-- and a page that is asked of it is refused
+pub none_next : (terms : Terms) (desk now : Desk) (id k : ℤ) (frame : Showing) → cursor_at desk.cursors k ≡ None
+    → now ≡ record desk { cursors = without desk.cursors k }
+    → frame ≡ showing (reply_frame terms.version (shortened terms.version (untold id (Fails (fault_of reason.NoResource)))))
+    → IsTurned terms (next_turn terms desk id k (cursor_at desk.cursors k)) frame now
+none_next terms desk now id k frame none now_is frame_is =
+    subst (λ (o : Option Cursor). IsTurned terms (next_turn terms desk id k o) frame now) (sym none)
+    (record { frame_is = frame_is; desk_is = none_taken desk now k none now_is })
+
+-- a page that is asked of an open cursor
+pub some_next : (terms : Terms) (desk now : Desk) (id k : ℤ) (cursor : Cursor) (frame : Showing) → cursor_at desk.cursors k ≡ Some cursor
+    → IsTurned terms (next_page terms desk k cursor (untold id (page_content None cursor))) frame now
+    → IsTurned terms (next_turn terms desk id k (cursor_at desk.cursors k)) frame now
+some_next terms desk now id k cursor frame found turned =
+    subst (λ (o : Option Cursor). IsTurned terms (next_turn terms desk id k o) frame now) (sym found) turned
+
+-- a cursor is closed
+pub closed_some : (terms : Terms) (desk now : Desk) (id i number k : ℤ) (cursor : Cursor) (frame : Showing) → i ≡ id → k ≡ number
+    → cursor_at desk.cursors k ≡ Some cursor → now ≡ record desk { cursors = without desk.cursors k }
+    → frame ≡ showing (reply_frame terms.version (shortened terms.version (untold i (Shows (Out outcome.Done)))))
+    → IsTurned terms (close_turn terms desk id number (cursor_at desk.cursors number)) frame now
+closed_some terms desk now id i number k cursor frame i_is k_is found now_is frame_is =
+    let here : cursor_at desk.cursors number ≡ Some cursor = sym (ap (cursor_at desk.cursors) k_is) ∙ found in
+    subst (λ (o : Option Cursor). IsTurned terms (close_turn terms desk id number o) frame now) (sym here) (record {
+      frame_is = frame_is
+          ∙ ap (λ (n : ℤ). showing (reply_frame terms.version (shortened terms.version (untold n (Shows (Out outcome.Done)))))) i_is;
+      desk_is = now_is ∙ ap (λ (n : ℤ). record desk { cursors = without desk.cursors n }) k_is;
+    })
+
+-- none has the number
+pub closed_none : (terms : Terms) (desk now : Desk) (id i number k : ℤ) (frame : Showing) → i ≡ id → k ≡ number
+    → cursor_at desk.cursors k ≡ None → now ≡ record desk { cursors = without desk.cursors k }
+    → frame ≡ showing (reply_frame terms.version (shortened terms.version (untold i (Fails (fault_of reason.NoResource)))))
+    → IsTurned terms (close_turn terms desk id number (cursor_at desk.cursors number)) frame now
+closed_none terms desk now id i number k frame i_is k_is found now_is frame_is =
+    let here : cursor_at desk.cursors number ≡ None = sym (ap (cursor_at desk.cursors) k_is) ∙ found in
+    subst (λ (o : Option Cursor). IsTurned terms (close_turn terms desk id number o) frame now) (sym here) (record {
+      frame_is = frame_is
+          ∙ ap (λ (n : ℤ). showing (reply_frame terms.version (shortened terms.version (untold n (Fails (fault_of reason.NoResource)))))) i_is;
+      desk_is = none_taken desk now k found now_is;
+    })

@@ -1,6 +1,7 @@
 pub mod HeadProps
 pub mod Contents
 pub mod Results
+pub mod RowMarks
 pub mod FrameParts
 pub mod Showing
 pub mod Queues

@@ -22,6 +22,7 @@ mod queue;
 mod reply;
 mod reply_frame;
 mod result;
+mod row_mark;
 mod terms;
 mod turns;
 

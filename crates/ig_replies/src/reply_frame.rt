@@ -4,8 +4,10 @@ use crate::body::{body_len, head_at};
 use crate::frame_part::frame_part;
 use crate::head::Lead;
 use crate::reply::{Content, Reply};
+use crate::row_mark::{first_mark, move_mark};
 use ig_fields::message_len;
 use ig_frame::MAX_FRAME;
+use ig_ops::PageMark;
 use ig_wire::{Reason, Version};
 use std::marker::Model;
 
@@ -19,6 +21,7 @@ pub struct ReplyFrame {
     reply: Reply,
     body_len: usize,
     lead_len: usize,
+    mark: PageMark,
     gone: usize,
 }
 
@@ -28,12 +31,14 @@ impl Model for ReplyFrame {
     ghost use Rattle.ig_replies.specs.Contents.{reply_said};
     ghost use Rattle.ig_replies.specs.Showing.{Showing};
     ghost use Rattle.ig_replies.specs.FrameParts.{IsLaidOut};
+    ghost use Rattle.ig_replies.specs.RowMarks.{IsRowMark};
 
     ghost Value = { Showing };
 
     ghost view = { λ f. record { frame = reply_frame f.version (reply_said f.reply); gone = f.gone } };
 
     ghost invariant = { λ f. IsLaidOut f.version f.reply f.body_len f.lead_len
+        × IsRowMark f.reply.content f.mark
         × (f.gone ≤ length (reply_frame f.version (reply_said f.reply))) };
 }
 
@@ -78,11 +83,13 @@ impl ReplyFrame {
             body_len,
             head: head_at(version, &reply),
         }) as usize;
+        let mark = first_mark(&reply.content);
         ReplyFrame {
             version,
             reply,
             body_len,
             lead_len,
+            mark,
             gone: 0,
         }
     }
@@ -116,10 +123,13 @@ impl ReplyFrame {
             &self.reply,
             self.body_len,
             self.lead_len,
+            &self.mark,
             self.gone,
             into,
         );
         self.gone += filled;
+        let shown = self.gone.saturating_sub(self.lead_len);
+        move_mark(&self.reply.content, &mut self.mark, shown as u64);
         filled
     }
 }

@@ -4,7 +4,7 @@ ghost use Rattle.std.specs.Prelude.{◌≡◌, ◌<◌, ◌&&◌, pos, [], ◌�
 ghost use Rattle.ig_caches.specs.declared.request.Request.TheVariants.{Run, Scan, NextPage, Close};
 ghost use Rattle.ig_deals.specs.Deals.{Had};
 ghost use Rattle.ig_deals.specs.Faults.{refusal_of};
-ghost use Rattle.ig_deals.specs.Desk.{Desk as a_desk, has_more, cursor_at, without};
+ghost use Rattle.ig_deals.specs.Desk.{Desk as a_desk, has_more, cursor_at};
 ghost use Rattle.ig_deals.specs.Replies.{fault_in, reply_frame, fits, shortened};
 ghost use Rattle.ig_deals.specs.Turns.{untold, telling, answers, no_memory, page_content, page_size, first_page, scanned, turn_for, request_turn};
 ghost use Rattle.ig_wire.specs.Heads.{HasShortText};
@@ -237,11 +237,11 @@ fn show_page(
 }
 
 /// The next page of an open cursor, which is open after it exactly where rows are left and a frame can
-/// hold the page.
+/// hold the page. On an error the desk is as before.
 ///
 /// # Errors
 ///
-/// [`NoMemory`] if there is none for the rows of the page. The cursor isn't open any more then.
+/// [`NoMemory`] if there is none for the rows of the page.
 pub fn next_page(
     terms: &Terms,
     desk: &mut Desk,
@@ -251,19 +251,12 @@ pub fn next_page(
     requires { HasNumbers desk.old }
     ensures ok { IfOk result (λ frame. IsTurned (terms_of terms.now)
         (request_turn (terms_of terms.now) desk.old id (NextPage number) None) frame desk.new) }
-    ensures err { OnErr result (desk.new
-        ≡ record desk.old { cursors = without desk.old.cursors number }) }
+    ensures err { OnErr result (desk.new ≡ desk.old) }
 {
-    let Some(mut cursor) = desk.take(number) else {
+    let Some((page, cursor)) = desk.take_page(number)? else {
         return Ok(say(terms, id, Content::Refuses(Reason::NoResource)));
     };
-    let more = cursor.has_more();
-    let rows = cursor.take_page()?;
-    let page = Page {
-        cursor: None,
-        rows,
-        more,
-    };
+    let more = page.more;
     let reply = Reply {
         id,
         told: None,

@@ -1,7 +1,12 @@
+ghost use Rattle.std.specs.Prelude.{◌≡◌, IfOk};
+ghost use Rattle.ig_deals.specs.Laws.{IsDesk};
+ghost use Rattle.ig_replies.specs.RunTerms.{AreTerms};
+ghost use Rattle.ig_replies.specs.Showing.{showing};
+ghost use Rattle.ig_replies.specs.Turned.{HasNumbers};
+
 use ig_base::{Items, NoMemory, Octets};
 use ig_caches::{Answer, Call, Outcome, Page, Pair, Shown, Why};
 use ig_deals::{Desk, Manner, SessionCfg};
-use ig_encode::encode;
 use ig_ops::write_result;
 use ig_replies::{
     Queue, ReplyFrame, Terms, answer, answer_scan, close, lacks_memory, next_page, refuse,
@@ -17,7 +22,12 @@ const CFG: SessionCfg = SessionCfg {
     parts: 4,
 };
 
-fn terms_at(version: Version) -> Terms {
+/// Numbers of cursors are below this.
+const NUMBERS: u64 = 1 << 63;
+
+fn terms_at(version: Version) -> Terms
+    ensures { AreTerms result }
+{
     Terms {
         version,
         manner: Manner::of_session(version),
@@ -158,6 +168,15 @@ static TOO_LONG: [u8; 35] = [
     116, 111, 111, 32, 108, 111, 110, 103,
 ];
 
+/// What comes before the bytes of a list of 200,000 bytes: the frame's length, the head, the list's type
+/// and length.
+static BEFORE_LIST: [u8; 21] = [
+    81, 13, 3, 0, 1, 0, 0, 0, 0, 0, 0, 0, 0, 0, 0, 0, 12, 64, 13, 3, 0,
+];
+
+/// What comes before a page of 15,000 rows of 10 bytes.
+static BEFORE_PAGE: [u8; 16] = [9, 74, 2, 0, 1, 0, 0, 0, 0, 0, 0, 0, 0, 0, 0, 0];
+
 /// Rows of which each has its number as key and value, from 1 up to this one.
 fn rows_to(alloc: Global, last: i32) -> Result<Items<Pair>, NoMemory> {
     let mut rows = Vec::new(alloc);
@@ -177,7 +196,12 @@ fn replied(
     desk: &mut Desk,
     asks: &str,
     id: i64,
-) -> Result<ReplyFrame, NoMemory> {
+) -> Result<ReplyFrame, NoMemory>
+    requires terms { AreTerms terms.now }
+    requires numbers { HasNumbers desk.old }
+    ensures fresh { IfOk result (λ frame. frame ≡ showing frame.frame) }
+    ensures desk { IfOk result (λ frame. IsDesk desk.new) }
+{
     let outcome = match asks {
         "page" => return next_page(terms, desk, id, 1),
         "close" => return Ok(close(terms, desk, id, 2)),
@@ -214,11 +238,7 @@ fn shown(alloc: Global, queue: &mut Queue, step: usize) -> Result<Option<Octets>
         if waiting.len() > 65_536 {
             return Ok(None);
         }
-        let count = if step < waiting.len() {
-            step
-        } else {
-            waiting.len()
-        };
+        let count = waiting.len().min(step);
         bytes.append(&waiting[..count])?;
         queue.gone(count);
     }
@@ -232,6 +252,9 @@ fn holds(alloc: Global, version: Version, rows: &[Row], step: usize) -> Result<b
     let mut queue = Queue::new(alloc)?;
     let mut wanted = Octets::empty(alloc);
     for (asks, id, frame) in rows {
+        if desk.next_number() >= NUMBERS {
+            return Ok(false);
+        }
         queue.push(replied(alloc, &terms, &mut desk, *asks, *id)?)?;
         wanted.append(*frame)?;
     }
@@ -242,7 +265,9 @@ fn holds(alloc: Global, version: Version, rows: &[Row], step: usize) -> Result<b
 }
 
 /// The frame of a reply with a list of this many bytes.
-fn frame_of_bytes(alloc: Global, count: usize) -> Result<ReplyFrame, NoMemory> {
+fn frame_of_bytes(alloc: Global, count: usize) -> Result<ReplyFrame, NoMemory>
+    ensures { IfOk result (λ frame. frame ≡ showing frame.frame) }
+{
     let mut bytes = Vec::new(alloc);
     bytes.resize(count, 5)?;
     let outcome = Outcome::Found(Value::Bytes(Items::new(bytes)));
@@ -256,26 +281,29 @@ fn frame_of_bytes(alloc: Global, count: usize) -> Result<ReplyFrame, NoMemory> {
     )
 }
 
-/// The bytes of a frame, shown by steps.
-fn shows(alloc: Global, frame: ReplyFrame, step: usize) -> Result<Option<Octets>, NoMemory> {
+/// The bytes of a frame of which nothing is gone, shown by steps.
+fn shows(alloc: Global, frame: ReplyFrame, step: usize) -> Result<Option<Octets>, NoMemory>
+    requires { frame ≡ showing frame.frame }
+{
     let mut queue = Queue::new(alloc)?;
     queue.push(frame)?;
     shown(alloc, &mut queue, step)
 }
 
-/// Whether the bytes are the frame of a reply with a list of this many bytes, all 5.
-fn is_list(alloc: Global, bytes: &[u8], count: usize) -> Result<bool, NoMemory> {
+/// Whether the bytes are these, and then this many bytes 5.
+fn is_list(alloc: Global, bytes: &[u8], before: &[u8], count: usize) -> Result<bool, NoMemory> {
     let mut list = Vec::new(alloc);
     list.resize(count, 5)?;
     let mut wanted = Octets::empty(alloc);
-    wanted.append(&(count as u32 + 17).to_le_bytes())?;
-    wanted.append(&[1, 0, 0, 0, 0, 0, 0, 0, 0, 0, 0, 0])?;
-    encode(alloc, &Value::Bytes(Items::new(list)), &mut wanted)?;
+    wanted.append(before)?;
+    wanted.append(list.as_slice())?;
     Ok(bytes == wanted.as_slice())
 }
 
 /// The frame of the first page of a scan, which has all of this many rows.
-fn frame_of_rows(alloc: Global, count: i32) -> Result<ReplyFrame, NoMemory> {
+fn frame_of_rows(alloc: Global, count: i32) -> Result<ReplyFrame, NoMemory>
+    ensures { IfOk result (λ frame. frame ≡ showing frame.frame) }
+{
     let terms = terms_at(Version::V1_0_0);
     let outcome = Outcome::Pairs(rows_to(alloc, count)?);
     let mut desk = Desk::new(alloc)?;
@@ -290,17 +318,15 @@ fn frame_of_rows(alloc: Global, count: i32) -> Result<ReplyFrame, NoMemory> {
     )
 }
 
-/// Whether the bytes are that frame: a row has 10 bytes, what comes before the rows 24, and one comes
-/// after them.
-fn is_page(alloc: Global, bytes: &[u8], count: i32) -> Result<bool, NoMemory> {
+/// Whether the bytes are these, and then that page of this many rows.
+fn is_page(alloc: Global, bytes: &[u8], before: &[u8], count: i32) -> Result<bool, NoMemory> {
     let page = Page {
         cursor: Some(1),
         rows: rows_to(alloc, count)?,
         more: false,
     };
     let mut wanted = Octets::empty(alloc);
-    wanted.append(&(count * 10 + 25).to_le_bytes())?;
-    wanted.append(&[1, 0, 0, 0, 0, 0, 0, 0, 0, 0, 0, 0])?;
+    wanted.append(before)?;
     write_result(alloc, &Shown::Page(page), &mut wanted)?;
     Ok(bytes == wanted.as_slice())
 }
@@ -330,7 +356,7 @@ fn long_values_are_shown_in_pieces(rt: HostRuntime) -> Result<(), Fail> {
             assert!(rt; false);
             return Ok(());
         };
-        assert!(rt; is_list(alloc, bytes.as_slice(), 200_000)?);
+        assert!(rt; is_list(alloc, bytes.as_slice(), &BEFORE_LIST, 200_000)?);
     }
     Ok(())
 }
@@ -344,7 +370,7 @@ fn long_pages_are_shown_in_pieces(rt: HostRuntime) -> Result<(), Fail> {
             assert!(rt; false);
             return Ok(());
         };
-        assert!(rt; is_page(alloc, bytes.as_slice(), 15_000)?);
+        assert!(rt; is_page(alloc, bytes.as_slice(), &BEFORE_PAGE, 15_000)?);
     }
     Ok(())
 }

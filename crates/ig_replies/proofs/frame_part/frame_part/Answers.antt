@@ -8,34 +8,34 @@ use Rattle.ig_replies.proofs.PartLemmas.{IsPart, after_lead, within_lead, over_l
 use Rattle.ig_replies.proofs.frame_part.frame_part.Goals as goal
 
 pub lead_part-first-requires : goal.lead_part-first-requires
-lead_part-first-requires c = c.requires.may
+lead_part-first-requires c = c.requires.laid.may
 
 pub returns-then-from-lead_len-clause-count : goal.returns-then-from-lead_len-clause-count
 returns-then-from-lead_len-clause-count c =
     (after_lead (reply_frame c.args.version (reply_said c.args.reply.now)) (lead_bytes c.args.version c.args.reply.now c.args.body_len)
     (content_bytes c.args.reply.now.content) c.args.into.now c.content_part.new.into c.args.lead_len c.args.from c.content_part.result
-    (frame_is c.args.version c.args.reply.now c.args.body_len c.args.lead_len c.requires) c.requires.lead c.if-from-lead_len.true
+    (frame_is c.args.version c.args.reply.now c.args.body_len c.args.lead_len c.requires.laid) c.requires.laid.lead c.if-from-lead_len.true
     c.content_part.ensures.count c.content_part.ensures.bytes).0
 
 pub returns-then-from-lead_len-clause-bytes : goal.returns-then-from-lead_len-clause-bytes
 returns-then-from-lead_len-clause-bytes c =
     (after_lead (reply_frame c.args.version (reply_said c.args.reply.now)) (lead_bytes c.args.version c.args.reply.now c.args.body_len)
     (content_bytes c.args.reply.now.content) c.args.into.now c.content_part.new.into c.args.lead_len c.args.from c.content_part.result
-    (frame_is c.args.version c.args.reply.now c.args.body_len c.args.lead_len c.requires) c.requires.lead c.if-from-lead_len.true
+    (frame_is c.args.version c.args.reply.now c.args.body_len c.args.lead_len c.requires.laid) c.requires.laid.lead c.if-from-lead_len.true
     c.content_part.ensures.count c.content_part.ensures.bytes).1
 
 pub returns-then-from-first-clause-count : goal.returns-then-from-first-clause-count
 returns-then-from-first-clause-count c =
     (within_lead (reply_frame c.args.version (reply_said c.args.reply.now)) (lead_bytes c.args.version c.args.reply.now c.args.body_len)
     (content_bytes c.args.reply.now.content) c.args.into.now c.lead_part-first.new.into c.args.lead_len c.args.from c.lead_part-first.result
-    (frame_is c.args.version c.args.reply.now c.args.body_len c.args.lead_len c.requires) c.requires.lead c.if-from-first.true
+    (frame_is c.args.version c.args.reply.now c.args.body_len c.args.lead_len c.requires.laid) c.requires.laid.lead c.if-from-first.true
     c.lead_part-first.ensures.count c.lead_part-first.ensures.bytes).0
 
 pub returns-then-from-first-clause-bytes : goal.returns-then-from-first-clause-bytes
 returns-then-from-first-clause-bytes c =
     (within_lead (reply_frame c.args.version (reply_said c.args.reply.now)) (lead_bytes c.args.version c.args.reply.now c.args.body_len)
     (content_bytes c.args.reply.now.content) c.args.into.now c.lead_part-first.new.into c.args.lead_len c.args.from c.lead_part-first.result
-    (frame_is c.args.version c.args.reply.now c.args.body_len c.args.lead_len c.requires) c.requires.lead c.if-from-first.true
+    (frame_is c.args.version c.args.reply.now c.args.body_len c.args.lead_len c.requires.laid) c.requires.laid.lead c.if-from-first.true
     c.lead_part-first.ensures.count c.lead_part-first.ensures.bytes).1
 
 pub returns-clause-count : goal.returns-clause-count
@@ -50,7 +50,7 @@ returns-clause-count c =
     c.content_part-2.ensures.bytes ∙ ap (λ (l : List ℕ). take c.content_part-2.result result ++ drop c.content_part-2.result l) back in
     (over_lead (reply_frame c.args.version (reply_said c.args.reply.now)) (lead_bytes c.args.version c.args.reply.now c.args.body_len)
     result c.args.into.now mid c.content_part-2.new.into c.args.lead_len c.args.from first c.content_part-2.result
-    (frame_is c.args.version c.args.reply.now c.args.body_len c.args.lead_len c.requires) c.requires.lead c.if-from-lead_len.false c.if-from-first.false
+    (frame_is c.args.version c.args.reply.now c.args.body_len c.args.lead_len c.requires.laid) c.requires.laid.lead c.if-from-lead_len.false c.if-from-first.false
     c.lead_part-first.ensures.count c.lead_part-first.ensures.bytes count bytes).0
 
 pub returns-clause-bytes : goal.returns-clause-bytes
@@ -66,5 +66,5 @@ returns-clause-bytes c =
     ap (λ (l : List ℕ). l ++ c.content_part-2.new.into) c.split_at_mut-room.ensures.front
     ∙ (over_lead (reply_frame c.args.version (reply_said c.args.reply.now)) (lead_bytes c.args.version c.args.reply.now c.args.body_len)
     result c.args.into.now mid c.content_part-2.new.into c.args.lead_len c.args.from first c.content_part-2.result
-    (frame_is c.args.version c.args.reply.now c.args.body_len c.args.lead_len c.requires) c.requires.lead c.if-from-lead_len.false c.if-from-first.false
+    (frame_is c.args.version c.args.reply.now c.args.body_len c.args.lead_len c.requires.laid) c.requires.laid.lead c.if-from-lead_len.false c.if-from-first.false
     c.lead_part-first.ensures.count c.lead_part-first.ensures.bytes count bytes).1

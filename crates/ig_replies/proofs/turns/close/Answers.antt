@@ -1,11 +1,9 @@
-use Rattle.std.proofs.Common.{◌≡◌, Option, Some, None, sym, subst, ◌∙◌}
+use Rattle.std.proofs.Common.{sym, ◌∙◌, to_z, of_z, w64}
+use Rattle.std.proofs.lemmas.Int.{to_z-of_z}
 use Rattle.ig_wire.specs.declared.reason.Reason.TheVariants as reason
-use Rattle.ig_deals.specs.Desk.{Cursor, cursor_at}
-use Rattle.ig_deals.specs.Turns.{close_turn}
 use Rattle.ig_replies.specs.RunTerms.{terms_of}
-use Rattle.ig_replies.specs.Turned.{IsTurned}
 use Rattle.ig_replies.proofs.ReasonLemmas.{reason_short}
-use Rattle.ig_replies.proofs.TurnLemmas.{none_taken}
+use Rattle.ig_replies.proofs.TurnLemmas.{closed_some, closed_none}
 use Rattle.ig_replies.proofs.turns.close.Goals as goal
 
 pub say-requires-in-None : goal.say-requires-in-None
@@ -13,12 +11,14 @@ say-requires-in-None c = reason_short reason.NoResource
 
 pub returns-in-Some : goal.returns-in-Some
 returns-in-Some c =
-    let found : cursor_at c.args.desk.now.cursors c.args.resource ≡ Some c.in-Some.cursor = sym c.take.ensures.taken ∙ c.in-Some.is in
-    subst (λ (o : Option Cursor). IsTurned (terms_of c.args.terms.now) (close_turn (terms_of c.args.terms.now) c.args.desk.now c.args.id c.args.resource o) c.say.result c.take.new.self)
-    (sym found) (record { frame_is = c.say.ensures; desk_is = c.take.ensures.left })
+    closed_some (terms_of c.args.terms.now) c.args.desk.now c.take.new.self c.args.id (to_z w64 (of_z w64 c.args.id)) c.args.resource
+    (to_z w64 (of_z w64 c.args.resource)) c.in-Some.cursor c.say.result
+    (to_z-of_z w64 c.args.id c.ranges.id) (to_z-of_z w64 c.args.resource c.ranges.resource)
+    (sym c.take.ensures.taken ∙ c.in-Some.is) c.take.ensures.left c.say.ensures
 
 pub returns-in-None : goal.returns-in-None
 returns-in-None c =
-    let found : cursor_at c.args.desk.now.cursors c.args.resource ≡ None = sym c.take.ensures.taken ∙ c.in-None.is in
-    subst (λ (o : Option Cursor). IsTurned (terms_of c.args.terms.now) (close_turn (terms_of c.args.terms.now) c.args.desk.now c.args.id c.args.resource o) c.say-in-None.result c.take.new.self)
-    (sym found) (record { frame_is = c.say-in-None.ensures; desk_is = none_taken c.args.desk.now c.take.new.self c.args.resource found c.take.ensures.left })
+    closed_none (terms_of c.args.terms.now) c.args.desk.now c.take.new.self c.args.id (to_z w64 (of_z w64 c.args.id)) c.args.resource
+    (to_z w64 (of_z w64 c.args.resource)) c.say-in-None.result
+    (to_z-of_z w64 c.args.id c.ranges.id) (to_z-of_z w64 c.args.resource c.ranges.resource)
+    (sym c.take.ensures.taken ∙ c.in-None.is) c.take.ensures.left c.say-in-None.ensures

@@ -1,9 +1,10 @@
-use Rattle.std.proofs.Common.{◌≡◌, Bool, true, false, sym, ap, subst, ◌∙◌}
+use Rattle.std.proofs.Common.{◌≡◌, Bool, true, false, ℤ, pos, Some, sym, ap, subst, ◌∙◌, to_z, of_z, w32, w64}
 use Rattle.std.specs.Prelude.{IfOk, length, nat_le}
+use Rattle.std.proofs.lemmas.Int.{to_z-of_z}
 use Rattle.ig_wire.specs.declared.reason.Reason.TheVariants as reason
 use Rattle.ig_wire.specs.Limits.{most_cursors}
 use Rattle.ig_deals.specs.Desk.{has_more}
-use Rattle.ig_deals.specs.Turns.{Turn}
+use Rattle.ig_deals.specs.Turns.{Turn, scanned}
 use Rattle.ig_replies.specs.RunTerms.{terms_of}
 use Rattle.ig_replies.specs.Turned.{IsTurned}
 use Rattle.ig_replies.proofs.ReasonLemmas.{reason_short}
@@ -17,4 +18,4 @@ pub returns-then-not-has_more-clause-ok : goal.returns-then-not-has_more-clause-
 returns-then-not-has_more-clause-ok c =
     let last : has_more c.args.cursor ≡ false = sym c.has_more.ensures ∙ c.if-not-has_more.true in
     subst (λ (t : Turn). IfOk c.show_first.result (λ frame. IsTurned (terms_of c.args.terms.now) t frame c.show_first.new.desk))
-    (sym (one_page (terms_of c.args.terms.now) c.args.desk.now c.args.id c.args.minor c.args.cursor last)) c.show_first.ensures.ok
+    (sym (one_page (terms_of c.args.terms.now) c.args.desk.now c.args.id c.args.minor c.args.cursor last)) (simp (to_z-of_z, c.ranges.id, c.ranges.minor) at c.show_first.ensures.ok)

@@ -10,13 +10,14 @@ pub overflow_add-self : goal.overflow_add-self
 overflow_add-self c =
     let len : length (reply_frame c.self.inside.version (reply_said c.self.inside.reply)) ≡ 4 + c.self.inside.body_len =
     frame_length c.self.inside.version c.self.inside.reply c.self.inside.body_len c.self.inside.lead_len c.self.invariant.0 in
-    omega (arith, len, c.self.invariant.0.fits, c.self.invariant.1, c.frame_part-filled.ensures.count)
+    omega (arith, len, c.self.invariant.0.fits, c.self.invariant.2, c.frame_part-filled.ensures.count)
 
 pub invariant_of-self : goal.invariant_of-self
 invariant_of-self c = (
   c.self.invariant.0,
+  c.move_mark.ensures,
   fills_within (length (reply_frame c.self.inside.version (reply_said c.self.inside.reply))) c.self.inside.gone c.frame_part-filled.result (length c.args.into.now)
-      c.self.invariant.1 c.frame_part-filled.ensures.count,
+      c.self.invariant.2 c.frame_part-filled.ensures.count,
 )
 
 pub returns-clause-some : goal.returns-clause-some
