@@ -40,6 +40,3 @@ pub use laws::{sessions_end, sessions_end_ahead, sessions_stand, sessions_stand_
 pub use serve::{serve_ends, serve_link};
 pub use session::Session;
 pub use step::{Ahead, Step};
-
-#[cfg(test)]
-mod tests;

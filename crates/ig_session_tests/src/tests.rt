@@ -1,4 +1,4 @@
-use super::*;
+use ig_session::*;
 use ig_base::{NoMemory, NoRoom, Octets, Text};
 use ig_caches::{Answer, Caches, Call, Exec, Outcome};
 use ig_link::{MemLink, ReadStep};
