@@ -1,7 +1,8 @@
 -- What a command over a source and a sink does, by its words.
-use Rattle.std.specs.Prelude.{◌≡◌, ◌≢◌, ◌⊎◌, ℕ, List, [], ◌∷◌, Option, None, Some}
+use Rattle.std.specs.Prelude.{◌≡◌, ◌≢◌, ◌⊎◌, ℕ, true, List, [], ◌∷◌, Option, None, Some}
 use Rattle.ig_base.specs.declared.entry.Entry.{Entry}
-use Rattle.ig_link.specs.States.{SourceState, SinkState, SourceAdvances, SinkAdvances}
+use Rattle.ig_base.specs.Frames.{client, Begins}
+use Rattle.ig_link.specs.States.{SourceState, SinkState, Rose, SourceAdvances, SinkAdvances}
 use Rattle.ig_caches.specs.declared.call.Call.{Call}
 use Rattle.ig_caches.specs.declared.answer.Answer.{Answer}
 use Rattle.ig_caches.specs.PlainCaches.{fresh_caches}
@@ -10,7 +11,7 @@ use Rattle.ig_caches.specs.Legal.{Legal}
 use Rattle.ig_deals.specs.declared.cfg.SessionCfg.{SessionCfg}
 use Rattle.ig_deals.specs.declared.end.SessionEnd.{SessionEnd}
 use Rattle.ig_deals.specs.declared.end.SessionEnd.TheVariants as ends
-use Rattle.ig_deals.specs.Serves.{Serves}
+use Rattle.ig_deals.specs.Serves.{IsOpen, Serves}
 use Rattle.ig_session.specs.Serving.{IsCaused}
 use Rattle.ignite_thin.specs.Words.{pipe_names}
 use Rattle.ignite_thin.specs.Statuses.{status_of}
@@ -19,9 +20,16 @@ use Rattle.ignite_thin.specs.Statuses.{status_of}
 abbrev pub one_node : SessionCfg
 one_node = record { node = 0; nodes = 1; parts = 1024 }
 
+-- A source that has ended, no failed read and no failed write, an accepted hello, and no bytes after the last frame: then
+-- the status is 0, or memory ran out.
+abbrev pub Completes : SourceState → SourceState → SinkState → SinkState → List ℕ → ℕ → Type 0
+Completes source source' sink sink' input status =
+    (bodies : List (List ℕ)) → source'.ended ≡ true → ¬ (Rose source.faults source'.faults) → ¬ (Rose sink.faults sink'.faults)
+    → Begins client input bodies [] → IsOpen bodies → (status ≡ 0) ⊎ (status ≡ 5)
+
 -- One session was served over the source and the sink. There is one history of plain caches, legal from the named
 -- caches without rows, that agrees with the input that was taken and the output that was written. The end has its
--- cause, and the status says the end.
+-- cause, and the status says the end. It is 0 where nothing stands in the way, memory aside.
 pub record PipeRuns (names : List (List ℕ)) (source source' : SourceState) (sink sink' : SinkState) (status : ℕ) : Type 0 where
   pub end : SessionEnd
   pub input : List ℕ
@@ -33,6 +41,7 @@ pub record PipeRuns (names : List (List ℕ)) (source source' : SourceState) (si
   pub serves : Serves one_node 0 input output entries end
   pub caused : IsCaused end source source' sink sink'
   pub status_is : status ≡ status_of end
+  pub completes : Completes source source' sink sink' input status
   pub named : end ≢ ends.NoMemory → CanStart names
 
 -- the words are no command: nothing was read or written, and the status is 1
