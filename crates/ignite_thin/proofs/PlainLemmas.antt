@@ -29,30 +29,30 @@ never e = absurd (clash e) where
 -- an input that is whole frames to its end isn't one of which bytes are missing
 not_truncated : (input after : List ℕ) (bodies others : List (List ℕ)) (missing : ℕ) → Begins client input bodies after
     → EndsBy (ends.Truncated missing) input bodies after → Begins client input others [] → IsOpen others → ⊥
-not_truncated input after bodies others missing begun by begins open =
+not_truncated input after bodies others missing begun by begins is_open =
     let cut : Cut client input bodies after = record { begins = begun; ends = subst HasNoFrame (sym by.0.part) tt } in
     let whole : Cut client input others [] = record { begins = begins; ends = subst HasNoFrame (sym (front-short (least_after client others) max_body [] (omega arith))) tt } in
     let same : (bodies ≡ others) × (after ≡ []) = same_cut bodies others client input after [] cut whole in
-    by.1.0 (subst IsOpen (sym same.0) open) same.1
+    by.1.0 (subst IsOpen (sym same.0) is_open) same.1
 
 -- each end but the good one, and that for memory, says what stands in the way
 completes_at : (end : SessionEnd) (source source' : SourceState) (sink sink' : SinkState) (input after : List ℕ) (read : List (List ℕ)) → Begins client input read after
     → EndsBy end input read after → IsCaused end source source' sink sink' → Completes source source' sink sink' input (status_of end)
-completes_at ends.Ended source source' sink sink' input after read begun by caused bodies ended no_read no_write begins open = inl refl
-completes_at (ends.Truncated missing) source source' sink sink' input after read begun by caused bodies ended no_read no_write begins open =
-    absurd (not_truncated input after read bodies missing begun by begins open)
-completes_at (ends.BadFrame place len) source source' sink sink' input after read begun by caused bodies ended no_read no_write begins open = never (sym ended ∙ caused.0.ended)
-completes_at (ends.HelloRefused fault) source source' sink sink' input after read begun by caused bodies ended no_read no_write begins open = never (sym ended ∙ caused.0.ended)
-completes_at ends.ReadFault source source' sink sink' input after read begun by caused bodies ended no_read no_write begins open = absurd (no_read caused.0.rose)
-completes_at ends.WriteFault source source' sink sink' input after read begun by caused bodies ended no_read no_write begins open = absurd (no_write caused.1.rose)
-completes_at ends.ByteLimit source source' sink sink' input after read begun by caused bodies ended no_read no_write begins open = never (sym ended ∙ caused.0.ended)
-completes_at ends.NoMemory source source' sink sink' input after read begun by caused bodies ended no_read no_write begins open = inr refl
+completes_at ends.Ended source source' sink sink' input after read begun by caused bodies ended no_read no_write begins is_open = inl refl
+completes_at (ends.Truncated missing) source source' sink sink' input after read begun by caused bodies ended no_read no_write begins is_open =
+    absurd (not_truncated input after read bodies missing begun by begins is_open)
+completes_at (ends.BadFrame place len) source source' sink sink' input after read begun by caused bodies ended no_read no_write begins is_open = never (sym ended ∙ caused.0.ended)
+completes_at (ends.HelloRefused fault) source source' sink sink' input after read begun by caused bodies ended no_read no_write begins is_open = never (sym ended ∙ caused.0.ended)
+completes_at ends.ReadFault source source' sink sink' input after read begun by caused bodies ended no_read no_write begins is_open = absurd (no_read caused.0.rose)
+completes_at ends.WriteFault source source' sink sink' input after read begun by caused bodies ended no_read no_write begins is_open = absurd (no_write caused.1.rose)
+completes_at ends.ByteLimit source source' sink sink' input after read begun by caused bodies ended no_read no_write begins is_open = never (sym ended ∙ caused.0.ended)
+completes_at ends.NoMemory source source' sink sink' input after read begun by caused bodies ended no_read no_write begins is_open = inr refl
 
 completes : (seat : ℕ) (end : SessionEnd) (source source' : SourceState) (sink sink' : SinkState) (input output : List ℕ) (entries : List (Entry Call Answer)) (status : ℕ)
     → Serves one_node seat input output entries end → IsCaused end source source' sink sink' → status ≡ status_of end → Completes source source' sink sink' input status
 completes seat end source source' sink sink' input output entries status serves caused is =
     subst (Completes source source' sink sink' input) (sym is)
-      (completes_at end source source' sink sink' input serves.runs.after serves.runs.bodies serves.runs.begins serves.runs.ends_by caused)
+    (completes_at end source source' sink sink' input serves.runs.after serves.runs.bodies serves.runs.begins serves.runs.ends_by caused)
 
 -- what was served by a caller over caches without rows has a legal history
 pub pipe_runs : {E : Type 0} (caches : E → PlainCaches) (caller caller' : Alone E) (names : List (List ℕ)) (source source' : SourceState) (sink sink' : SinkState) (end : SessionEnd) (status : ℕ)
@@ -98,7 +98,7 @@ pipe_none names source sink = record {
   };
   caused = (refl, refl);
   status_is = refl;
-  completes = λ bodies ended no_read no_write begins open. inr refl;
+  completes = λ bodies ended no_read no_write begins is_open. inr refl;
   named = λ no. absurd (no refl);
 }
 

@@ -63,4 +63,6 @@ fn main(rt: HostRuntime) -> ExitCode {
 }
 
 #[cfg(test)]
+mod exchanges;
+#[cfg(test)]
 mod tests;

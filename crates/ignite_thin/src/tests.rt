@@ -1,5 +1,6 @@
 //! Sessions over links in memory, from the words to the status.
 
+use crate::exchanges::{CUT, Exchange, FIRST, FIVE, SESSIONS, TELLING};
 use crate::plain::run_plain;
 use ig_base::{NoMemory, Octets, put_i16, put_i32, put_i64};
 use ig_link::{MemLink, ReadStep, WriteStep};
@@ -283,223 +284,6 @@ fn hellos_are_accepted_or_refused_for_their_first_fault(rt: HostRuntime) -> Resu
     Ok(())
 }
 
-/// What a client sends, and the reply to it.
-type Exchange = (&'static str, &'static str);
-
-/// The opening at 1.0.0.
-const FIRST: Exchange = ("08000000 01 0100 0000 0000 02", "01000000 01");
-
-/// The opening at 1.4.0.
-const TELLING: Exchange = (
-    "08000000 01 0100 0400 0000 02",
-    "12000000 01 0A 0000000000000000 0100000000000000",
-);
-
-/// Puts of int 1 to 5, each to itself.
-const FIVE: Exchange = (
-    "45000000 EC03 0900000000000000 B9053300 00 05000000 0301000000 0301000000 0302000000 \
-     0302000000 0303000000 0303000000 0304000000 0304000000 0305000000 0305000000",
-    "0C000000 0900000000000000 00000000",
-);
-
-/// A scan of them by pages of two.
-const SCAN: Exchange = (
-    "19000000 D007 0100000000000000 B9053300 00 65 02000000 FFFFFFFF 00",
-    "2D000000 0100000000000000 00000000 0100000000000000 02000000 0301000000 0301000000 \
-     0302000000 0302000000 01",
-);
-
-/// A creation of the cache `x`, at 1.0.0.
-const CREATE: Exchange = (
-    "10000000 1B04 0100000000000000 09 01000000 78",
-    "0C000000 0100000000000000 00000000",
-);
-
-/// Sessions in which every request is answered.
-static SESSIONS: [&[Exchange]; 10] = [
-    // A get from a cache that isn't there, and operations that aren't.
-    &[
-        FIRST,
-        (
-            "14000000 E803 0300000000000000 07000000 00 0301000000",
-            "25000000 0300000000000000 E8030000 09 14000000 636163686520646F6573206E6F74206578697374",
-        ),
-        (
-            "0A000000 D207 0500000000000000",
-            "27000000 0500000000000000 02000000 09 16000000 696E76616C6964206F7065726174696F6E20636F6465",
-        ),
-        (
-            "0E000000 4D04 0500000000000000 00000000",
-            "27000000 0500000000000000 02000000 09 16000000 696E76616C6964206F7065726174696F6E20636F6465",
-        ),
-        (
-            "10000000 E803 0100000000000000 B9053300 00 65",
-            "22000000 0100000000000000 01000000 09 11000000 6E756C6C206B6579206F722076616C7565",
-        ),
-    ],
-    // Several keys.
-    &[
-        FIRST,
-        (
-            "31000000 EC03 0100000000000000 B9053300 00 03000000 0301000000 0302000000 0301000000 0303000000 0304000000 0305000000",
-            "0C000000 0100000000000000 00000000",
-        ),
-        (
-            "27000000 EB03 0200000000000000 B9053300 00 04000000 0304000000 0301000000 0309000000 0304000000",
-            "24000000 0200000000000000 00000000 02000000 0304000000 0305000000 0301000000 0303000000",
-        ),
-    ],
-    // A scan's pages are its own rows, whatever was put since.
-    &[
-        FIRST,
-        FIVE,
-        SCAN,
-        (
-            "19000000 E903 0800000000000000 B9053300 00 0306000000 0306000000",
-            "0C000000 0800000000000000 00000000",
-        ),
-        (
-            "12000000 D107 0200000000000000 0100000000000000",
-            "25000000 0200000000000000 00000000 02000000 0303000000 0303000000 0304000000 0304000000 01",
-        ),
-        (
-            "12000000 D107 0300000000000000 0100000000000000",
-            "1B000000 0300000000000000 00000000 01000000 0305000000 0305000000 00",
-        ),
-        (
-            "12000000 D107 0400000000000000 0100000000000000",
-            "28000000 0400000000000000 F3030000 09 17000000 7265736F7572636520646F6573206E6F74206578697374",
-        ),
-    ],
-    // A cursor is closed once. A refused scan draws no number.
-    &[
-        FIRST,
-        FIVE,
-        (
-            "19000000 D007 0700000000000000 07000000 00 65 02000000 FFFFFFFF 00",
-            "25000000 0700000000000000 E8030000 09 14000000 636163686520646F6573206E6F74206578697374",
-        ),
-        SCAN,
-        (
-            "12000000 0000 0200000000000000 0100000000000000",
-            "0C000000 0200000000000000 00000000",
-        ),
-        (
-            "12000000 0000 0300000000000000 0100000000000000",
-            "28000000 0300000000000000 F3030000 09 17000000 7265736F7572636520646F6573206E6F74206578697374",
-        ),
-    ],
-    // Replacing, and sizes.
-    &[
-        FIRST,
-        (
-            "19000000 E903 0100000000000000 B9053300 00 0301000000 0302000000",
-            "0C000000 0100000000000000 00000000",
-        ),
-        (
-            "1E000000 F203 0200000000000000 B9053300 00 0301000000 0303000000 0304000000",
-            "0D000000 0200000000000000 00000000 00",
-        ),
-        (
-            "13000000 FC03 0300000000000000 B9053300 00 00000000",
-            "14000000 0300000000000000 00000000 0100000000000000",
-        ),
-        (
-            "14000000 FC03 0400000000000000 B9053300 00 01000000 01",
-            "14000000 0400000000000000 00000000 0000000000000000",
-        ),
-    ],
-    // Types and their names.
-    &[
-        FIRST,
-        (
-            "2C000000 BB0B 0100000000000000 05000000 09 01000000 50 65 01000000 09 01000000 61 03000000 61000000 00 00000000",
-            "0C000000 0100000000000000 00000000",
-        ),
-        (
-            "0E000000 BA0B 0200000000000000 05000000",
-            "2F000000 0200000000000000 00000000 01 05000000 09 01000000 50 65 01000000 09 01000000 61 03000000 61000000 00 00000000",
-        ),
-        (
-            "15000000 B90B 0300000000000000 00 05000000 09 01000000 50",
-            "0D000000 0300000000000000 00000000 01",
-        ),
-        (
-            "15000000 B90B 0400000000000000 00 05000000 09 01000000 51",
-            "0D000000 0400000000000000 00000000 00",
-        ),
-        (
-            "0F000000 B80B 0500000000000000 00 05000000",
-            "12000000 0500000000000000 00000000 09 01000000 50",
-        ),
-    ],
-    // Caches that are created, and their names.
-    &[
-        FIRST,
-        CREATE,
-        (
-            "10000000 1B04 0200000000000000 09 01000000 78",
-            "1D000000 0200000000000000 E9030000 09 0C000000 636163686520657869737473",
-        ),
-        (
-            "0A000000 1A04 0300000000000000",
-            "1F000000 0300000000000000 00000000 02000000 09 04000000 6D61696E 09 01000000 78",
-        ),
-    ],
-    // The topology is told once while it stays the same.
-    &[
-        TELLING,
-        (
-            "19000000 E903 0100000000000000 B9053300 00 0301000000 0302000000",
-            "16000000 0100000000000000 0200 0100000000000000 00000000",
-        ),
-        (
-            "14000000 E803 0200000000000000 B9053300 00 0301000000",
-            "0F000000 0200000000000000 0000 0302000000",
-        ),
-        (
-            "14000000 E803 0300000000000000 07000000 00 0301000000",
-            "27000000 0300000000000000 0100 E8030000 09 14000000 636163686520646F6573206E6F74206578697374",
-        ),
-        (
-            "0E000000 4D04 0500000000000000 00000000",
-            "1A000000 0500000000000000 0000 0100000000000000 00000000 00000000",
-        ),
-    ],
-    // A refusal tells it too.
-    &[
-        TELLING,
-        (
-            "14000000 E803 0300000000000000 07000000 00 0301000000",
-            "33000000 0300000000000000 0300 0100000000000000 00000000 E8030000 09 14000000 636163686520646F6573206E6F74206578697374",
-        ),
-    ],
-    // It is told again where it changed. A request that doesn't read, and a next page, never tell it.
-    &[
-        TELLING,
-        (
-            "0A000000 E803 0700000000000000",
-            "2A000000 0700000000000000 0100 01000000 09 17000000 6D616C666F726D65642072657175657374206174203134",
-        ),
-        (
-            "12000000 D107 0200000000000000 0100000000000000",
-            "2A000000 0200000000000000 0100 F3030000 09 17000000 7265736F7572636520646F6573206E6F74206578697374",
-        ),
-        (
-            "19000000 E903 0100000000000000 B9053300 00 0301000000 0302000000",
-            "16000000 0100000000000000 0200 0100000000000000 00000000",
-        ),
-        (
-            "10000000 1B04 0200000000000000 09 01000000 78",
-            "16000000 0200000000000000 0200 0100000000000000 01000000",
-        ),
-        (
-            "10000000 1B04 0300000000000000 09 01000000 78",
-            "1F000000 0300000000000000 0100 E9030000 09 0C000000 636163686520657869737473",
-        ),
-    ],
-];
-
 /// What a client sends in a session and what it gets, each laid end to end.
 fn streams(alloc: Global, exchanges: &[Exchange]) -> Result<(Octets, Octets), NoMemory> {
     let mut input = Octets::empty(alloc);
@@ -701,14 +485,20 @@ fn malformed_fields_are_refused_at_their_offset(rt: HostRuntime) -> Result<(), F
     check(&rt, &client, &server, 0)
 }
 
-/// A put of a text of 8,388,583 letters has a body of 8,388,608 bytes.
-#[test]
-fn the_longest_request_is_answered(rt: HostRuntime) -> Result<(), Fail> {
-    let mut text = Octets::empty(rt.alloc());
+/// A text of 8,388,583 letters.
+fn longest_text(alloc: Global) -> Result<Octets, NoMemory> {
+    let mut text = Octets::empty(alloc);
     text.push(9)?;
     put_i32(&mut text, 8_388_583)?;
-    let letters = vec![in rt.alloc(); b'a'; 8_388_583]?;
+    let letters = vec![in alloc; b'a'; 8_388_583]?;
     text.append(letters.as_slice())?;
+    Ok(text)
+}
+
+/// A put of it has a body of 8,388,608 bytes.
+#[test]
+fn the_longest_request_is_answered(rt: HostRuntime) -> Result<(), Fail> {
+    let text = longest_text(rt.alloc())?;
     let mut client = Stream::client(rt.alloc())?;
     let mut server = Stream::server(rt.alloc())?;
     client.put(1, &int(1), text.as_slice())?;
@@ -718,17 +508,114 @@ fn the_longest_request_is_answered(rt: HostRuntime) -> Result<(), Fail> {
     check(&rt, &client, &server, 0)
 }
 
-/// A session with a scan, a next page and a creation.
-static CUT: [Exchange; 5] = [
-    FIRST,
-    FIVE,
-    SCAN,
-    (
-        "12000000 D107 0200000000000000 0100000000000000",
-        "25000000 0200000000000000 00000000 02000000 0303000000 0303000000 0304000000 0304000000 01",
-    ),
-    CREATE,
-];
+/// The reply to the get of such a text has a frame of 8,388,604 bytes. It is written in 128 pieces, of
+/// which the last has 65,532 bytes: it is missing where the write after 129 others fails.
+#[test]
+fn the_longest_reply_is_written_in_pieces(rt: HostRuntime) -> Result<(), Fail> {
+    let text = longest_text(rt.alloc())?;
+    let mut client = Stream::client(rt.alloc())?;
+    let mut server = Stream::server(rt.alloc())?;
+    client.put(1, &int(1), text.as_slice())?;
+    server.done(1)?;
+    client.get(2, &int(1))?;
+    server.found(2, text.as_slice())?;
+    let mut writes = Vec::new(rt.alloc());
+    for _ in 0..129 {
+        writes.push(WriteStep::AtMost(1 << 20))?;
+    }
+    writes.push(WriteStep::Fault)?;
+    let input = client.bytes.as_slice();
+    let run = run_over(rt.alloc(), &["pipe", "main"], input, false, writes)?;
+    let whole = server.bytes.len().saturating_sub(65_532);
+    assert_eq!(rt; run.status, 3);
+    assert!(rt; run.sink.written() == server.bytes.as_slice().get(..whole));
+    Ok(())
+}
+
+/// A get all of two such texts.
+#[test]
+fn a_reply_that_is_too_long_says_so(rt: HostRuntime) -> Result<(), Fail> {
+    let text = longest_text(rt.alloc())?;
+    let mut client = Stream::client(rt.alloc())?;
+    let mut server = Stream::server(rt.alloc())?;
+    client.put(1, &int(1), text.as_slice())?;
+    server.done(1)?;
+    client.put(2, &int(2), text.as_slice())?;
+    server.done(2)?;
+    client.hex("1F000000 EB03 0300000000000000 B9053300 00 02000000 0301000000 0302000000")?;
+    server.fault(3, 1, "reply too long")?;
+    check(&rt, &client, &server, 0)
+}
+
+/// A scan of `main` by this page.
+fn scan(client: &mut Stream, id: i64, page: i32) -> Result<(), NoMemory> {
+    let mut fields = bytes(client.alloc, "B9053300 00 65")?;
+    put_i32(&mut fields, page)?;
+    fields.append(&[0xFF, 0xFF, 0xFF, 0xFF, 0])?;
+    client.request(2000, id, fields.as_slice())
+}
+
+/// A first page with the rows of int 1 to this one, each to itself.
+fn first_page(server: &mut Stream, id: i64, rows: i32, more: u8) -> Result<(), NoMemory> {
+    let mut page = Octets::empty(server.alloc);
+    put_i64(&mut page, id)?;
+    put_i32(&mut page, rows)?;
+    for n in 1..=rows {
+        page.append(&int(n))?;
+        page.append(&int(n))?;
+    }
+    page.push(more)?;
+    server.found(id, page.as_slice())
+}
+
+/// With 128 cursors open a scan that fits its page is answered, and another one isn't. The cursors have
+/// the numbers of their requests.
+#[test]
+fn a_cursor_too_many_is_refused(rt: HostRuntime) -> Result<(), Fail> {
+    let (input, output) = streams(rt.alloc(), &[FIRST, FIVE])?;
+    let mut client = Stream {
+        alloc: rt.alloc(),
+        bytes: input,
+    };
+    let mut server = Stream {
+        alloc: rt.alloc(),
+        bytes: output,
+    };
+    for id in 1..=128 {
+        scan(&mut client, id, 4)?;
+        first_page(&mut server, id, 4, 1)?;
+    }
+    scan(&mut client, 200, 4)?;
+    server.fault(200, 1010, "too many cursors")?;
+    scan(&mut client, 129, 5)?;
+    first_page(&mut server, 129, 5, 0)?;
+    check(&rt, &client, &server, 0)
+}
+
+/// The partition map of `main` at 1.4.0: one group without pairs, and one node with all partitions.
+#[test]
+fn a_partition_map_lists_each_partition(rt: HostRuntime) -> Result<(), Fail> {
+    let (input, output) = streams(rt.alloc(), &[TELLING])?;
+    let mut client = Stream {
+        alloc: rt.alloc(),
+        bytes: input,
+    };
+    let mut server = Stream {
+        alloc: rt.alloc(),
+        bytes: output,
+    };
+    client.hex("12000000 4D04 0400000000000000 01000000 B9053300")?;
+    let mut body = bytes(
+        rt.alloc(),
+        "0400000000000000 0200 0100000000000000 00000000 0100000000000000 00000000 01000000 01 \
+         01000000 B9053300 00000000 01000000 0A 0000000000000000 0100000000000000 00040000",
+    )?;
+    for partition in 0..1024 {
+        put_i32(&mut body, partition)?;
+    }
+    server.frame(&body)?;
+    check(&rt, &client, &server, 0)
+}
 
 /// How many bytes of the replies are due once this many bytes of that session came, and whether these
 /// are whole frames of it, from the hello on.

@@ -28,4 +28,4 @@ returns-in-Ok-start g c =
     subst (λ (start : PlainCaches). StandsAlone plain_caches c.new-caller.result start []) (c.in-Ok-start.ensures.fresh ∙ ap fresh_caches c.in-Ok.ensures) c.new-caller.ensures in
     let can : CanStart names = subst CanStart c.in-Ok.ensures c.in-Ok-start.ensures.starts in
     named (map string_bytes c.args.words.now) names (g.S.Source.source c.args.source.now) (g.S.Source.source c.serve_ends.new.source) (g.K.Sink.sink c.args.sink.now) (g.K.Sink.sink c.serve_ends.new.sink) c.end_status.result c.in-Some.ensures
-      (pipe_runs plain_caches c.new-caller.result c.serve_ends.new.caller names (g.S.Source.source c.args.source.now) (g.S.Source.source c.serve_ends.new.source) (g.K.Sink.sink c.args.sink.now) (g.K.Sink.sink c.serve_ends.new.sink) c.serve_ends.result c.end_status.result stood can c.serve_ends.ensures.served c.end_status.ensures)
+    (pipe_runs plain_caches c.new-caller.result c.serve_ends.new.caller names (g.S.Source.source c.args.source.now) (g.S.Source.source c.serve_ends.new.source) (g.K.Sink.sink c.args.sink.now) (g.K.Sink.sink c.serve_ends.new.sink) c.serve_ends.result c.end_status.result stood can c.serve_ends.ensures.served c.end_status.ensures)
