@@ -33,7 +33,7 @@ not_truncated input after bodies others missing begun by begins is_open =
     let cut : Cut client input bodies after = record { begins = begun; ends = subst HasNoFrame (sym by.0.part) tt } in
     let whole : Cut client input others [] = record { begins = begins; ends = subst HasNoFrame (sym (front-short (least_after client others) max_body [] (omega arith))) tt } in
     let same : (bodies ≡ others) × (after ≡ []) = same_cut bodies others client input after [] cut whole in
-    by.1.0 (subst IsOpen (sym same.0) is_open) same.1
+    by.1 (subst IsOpen (sym same.0) is_open) same.1
 
 -- each end but the good one, and that for memory, says what stands in the way
 completes_at : (end : SessionEnd) (source source' : SourceState) (sink sink' : SinkState) (input after : List ℕ) (read : List (List ℕ)) → Begins client input read after

@@ -542,7 +542,7 @@ fn a_reply_that_is_too_long_says_so(rt: HostRuntime) -> Result<(), Fail> {
     server.done(1)?;
     client.put(2, &int(2), text.as_slice())?;
     server.done(2)?;
-    client.hex("1F000000 EB03 0300000000000000 B9053300 00 02000000 0301000000 0302000000")?;
+    client.hex("1D000000 EB03 0300000000000000 B9053300 00 02000000 0301000000 0302000000")?;
     server.fault(3, 1, "reply too long")?;
     check(&rt, &client, &server, 0)
 }
