@@ -29,7 +29,7 @@ use Rattle.ig_session.specs.declared.phase.Phase.TheVariants.{BeforeHello, Open,
 use Rattle.ig_session.specs.declared.awaited.Awaited.{Awaited}
 use Rattle.ig_session.specs.Awaiting.{awaited_of, deal_of, awaited_at, without_nth}
 use Rattle.ig_session.specs.States.{State}
-use Rattle.ig_session.specs.Steps.{settled_in, answered_at, IsSpent, Lacks}
+use Rattle.ig_session.specs.Steps.{settled_in, answered_at, IsSpent}
 use Rattle.ig_session.specs.StepsAhead.{is_at_cursors, answered_nth}
 use Rattle.ig_session.specs.StandsFor.{ShowsSoFar}
 use Rattle.ig_session.specs.StandsAhead.{HandedAhead, given_so_far, dealt_ahead, out_among, is_due, IsDue, LooksAtCursors, IsOrder, AreScansAlone, HasEach, AreCounted, out_ahead, IsOpenAhead, IsInAhead, StandsAhead}
@@ -341,30 +341,3 @@ module _ (limit : ℕ) (s : State) (input : List ℕ) (ran : List HandedAhead) (
 
   pub answered_stands_ahead : (more : List ℕ) × (length more ≤ 1) × StandsAhead limit (answered_nth s nth got) input (with_got ran nth got) (order ++ more) output
   answered_stands_ahead = subst After (sym answered_is) (by_phase s.phase refl stood.phase)
-
--- ---- out of memory
-
-spent_stands_ahead : (limit : ℕ) (s new : State) (input : List ℕ) (ran : List HandedAhead) (order output : List ℕ) → IsSpent s new s.out → StandsAhead limit s input ran order output → StandsAhead limit new input ran order output
-spent_stands_ahead limit s new input ran order output spent stood = record {
-  bodies = stood.bodies;
-  read = subst (λ (t : Stream). HandedOut client t input stood.bodies) (sym spent.stream) stood.read;
-  are_bytes = subst (λ (t : Stream). AreBytes t.rest) (sym spent.stream) stood.are_bytes;
-  handed_out = stood.handed_out;
-  out = spent.out_are ∙ stood.out;
-  count = spent.handed ∙ stood.count;
-  phase = subst (λ (p : Phase). IsInAhead p new.cfg new.desk stood.bodies (dealt_ahead (asks stood.bodies) (given_so_far ran))) (sym spent.phase) tt;
-  alone = stood.alone;
-  order_is = stood.order_is;
-  counted = subst (λ (p : Phase). AreCounted limit p new.out (length new.waiting.frames) (dealt_ahead (asks stood.bodies) (given_so_far ran)) order) (sym spent.phase)
-      (subst (λ (w : Waiting). length (dealt_ahead (asks stood.bodies) (given_so_far ran)) + length w.frames ≤ length order + limit) (sym spent.waiting)
-      (few_missing limit s.phase s.out (length s.waiting.frames) (dealt_ahead (asks stood.bodies) (given_so_far ran)) order stood.counted));
-  each = subst (λ (p : Phase). HasEach p (dealt_ahead (asks stood.bodies) (given_so_far ran)) order) (sym spent.phase) tt;
-  shows = subst (λ (w : Waiting). ShowsSoFar (out_ahead new.cfg stood.bodies (dealt_ahead (asks stood.bodies) (given_so_far ran)) order) w output) (sym spent.waiting)
-      (subst (λ (c : SessionCfg). ShowsSoFar (out_ahead c stood.bodies (dealt_ahead (asks stood.bodies) (given_so_far ran)) order) s.waiting output) (sym spent.cfg) stood.shows);
-}
-
-pub lack_stands_ahead : (limit : ℕ) (s new : State) (input : List ℕ) (ran : List HandedAhead) (order output : List ℕ) → Lacks s new → StandsAhead limit s input ran order output → StandsAhead limit new input ran order output
-lack_stands_ahead limit s new input ran order output lacks stood = elim lacks.left [
-  | inl same ↦ subst (λ (n : State). StandsAhead limit n input ran order output) (sym same) stood
-  | inr spent ↦ spent_stands_ahead limit s new input ran order output spent stood
-]

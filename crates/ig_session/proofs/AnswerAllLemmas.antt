@@ -21,12 +21,12 @@ use Rattle.ig_session.specs.Histories.{StandsOn}
 use Rattle.ig_session.specs.States.{State}
 use Rattle.ig_session.specs.Comings.{Coming, Replies, Stops, Misses, Greets, Asks, found, coming_in, coming}
 use Rattle.ig_session.specs.Soundness.{IsSound}
-use Rattle.ig_session.specs.Steps.{asked_next, step_to, next_step, answered, IsSpent, Lacks}
+use Rattle.ig_session.specs.Steps.{asked_next, step_to, next_step, answered, IsSpent}
 use Rattle.ig_session.specs.StandsFor.{Stands}
 use Rattle.ig_session.specs.Laws.{StandsAfter}
 use Rattle.ig_session.specs.Serving.{EndsAnswering, AnswersAll, SendsWaiting, GivesAnswer}
 use Rattle.ig_session.proofs.ComingLemmas.{comes_as}
-use Rattle.ig_session.proofs.StepLemmas.{step_stands, lack_stands}
+use Rattle.ig_session.proofs.StepLemmas.{step_stands}
 use Rattle.ig_session.proofs.AnswerLemmas.{answered_stands, lost_stands}
 use Rattle.ig_session.proofs.EndLemmas.{fault_is_end, stop_is_end}
 use Rattle.ig_session.proofs.ProgressLemmas.{Goes, HandsOut, Answers, out_step, run_step, more_step, answered_step}
@@ -67,22 +67,15 @@ stop_ends s end s0 s1 comes counts = ends_in s s.phase end s0 s1 (comes_as s (St
 step_is : (s new : State) (step : Step) (input : List ℕ) (ran : List Ran) (output : List ℕ) → (step, new) ≡ next_step s → IsSound s → Stands s input ran [] output → StandsAfter step new input ran output
 step_is s new step input ran output e sound stood = subst (λ (p : Step × State). StandsAfter p.0 p.1 input ran output) (sym e) (step_stands s input ran output sound stood)
 
-lack_cfg : (s new : State) → Lacks s new → new.cfg ≡ s.cfg
-lack_cfg s new lacks = elim lacks.left [
-  | inl same ↦ ap (λ (t : State). t.cfg) same
-  | inr spent ↦ spent.cfg
-]
-
 -- ---- each step
 
 module _ {C : Type 0} (stands : C → PlainCaches → List (Entry Call Answer) → Type 0) (seat : ℕ) (a b : C) (first old : State) (s0 s1 : SinkState) (since : Since stands seat a b first old s0 s1) where
   -- there was no memory to read a frame
-  pub since_lack : {A : Type 0} (new : State) → Lacks old new → AnswersAll {A = A} stands seat a b first new s0 s1 (Err ends.NoMemory)
-  since_lack {A} new lacks =
-      let now : Since stands seat a b first new s0 s1 = since_step stands seat a b first old new s0 s1 since (lack_cfg old new lacks)
-      (λ input ran output stood. lack_stands old new input ran output lacks stood) in
-      since_ended stands seat {A = A} a b first new s0 s1 ends.NoMemory now (λ counts. counts)
-      (λ input ran output within stood. (fault_is_end new input ran output within stood).1)
+  pub since_lack : {A : Type 0} (new : State) → new ≡ old → AnswersAll {A = A} stands seat a b first new s0 s1 (Err ends.NoMemory)
+  since_lack {A} new same =
+      subst (λ (t : State). AnswersAll {A = A} stands seat a b first t s0 s1 (Err ends.NoMemory)) (sym same)
+      (since_ended stands seat {A = A} a b first old s0 s1 ends.NoMemory since (λ counts. counts)
+      (λ input ran output within stood. (fault_is_end old input ran output within stood).1))
 
   pub since_stop : {A : Type 0} (new : State) (end : SessionEnd) → IsSound old → (steps.Stop end, new) ≡ next_step old → AnswersAll {A = A} stands seat a b first new s0 s1 (Err end)
   since_stop {A} new end sound e =

@@ -32,7 +32,7 @@ use Rattle.ig_session.specs.Awaiting.{deal_of}
 use Rattle.ig_session.specs.States.{State, state_of, new_state}
 use Rattle.ig_session.specs.Comings.{Greets, Asks, coming}
 use Rattle.ig_session.specs.Soundness.{most_fed, IsSound}
-use Rattle.ig_session.specs.Steps.{passed, opened, refused, greeting_frame, acceptance_frame, said, settled, settled_in, end_after, IsSpent, Lacks}
+use Rattle.ig_session.specs.Steps.{passed, opened, refused, greeting_frame, acceptance_frame, said, settled, settled_in, end_after, IsSpent}
 use Rattle.ig_session.proofs.ComingLemmas.{ComesAs, comes_as, HelloIn, hello_comes}
 use Rattle.ig_session.proofs.SoundLemmas.{fed_sound, passed_sound, waiting_sound, phase_sound, pushed_sound, none_before, turn_is_desk}
 
@@ -67,13 +67,7 @@ refused_sound s greeting fault comes sound =
 pub hello_first : (held s : State) (greeting : Greeting) → held ≡ passed s → coming s ≡ Greets greeting → held.waiting.frames ≡ []
 hello_first held s greeting is comes = ap (λ (h : State). h.waiting.frames) is ∙ (comes_as s (Greets greeting) (λ never. cc) comes).none_waits
 
--- ---- lacks of memory
-
-pub lacks_same : (s new : State) (terms : HeldTerms) (asked : Asked) → coming s ≡ Asks terms asked → new ≡ s → Lacks s new
-lacks_same s new terms asked comes is = record { none_waits = (comes_as s (Asks terms asked) (λ never. cc) comes).none_waits; left = inl is }
-
-pub lacks_spent : (s new : State) (terms : HeldTerms) (asked : Asked) → coming s ≡ Asks terms asked → IsSpent s new s.out → Lacks s new
-lacks_spent s new terms asked comes spent = record { none_waits = (comes_as s (Asks terms asked) (λ never. cc) comes).none_waits; left = inr spent }
+-- ---- a lack of memory
 
 -- the desk doesn't count
 pub spent_at : (s new : State) (desk : Desk) (out : List Awaited) → IsSpent (record s { desk = desk }) new out → IsSpent s new out
@@ -107,18 +101,6 @@ settled_other BeforeHello s awaited got never = refl
 settled_other (Open terms) s awaited got never = absurd (never terms refl)
 settled_other (Refused fault) s awaited got never = refl
 settled_other OutOfMemory s awaited got never = refl
-
--- ---- a cursor that was lost
-
-pub without_is_desk : (terms : Terms) (desk : Desk) (k : ℤ) → IsDesk desk → IsDesk (record desk { cursors = without desk.cursors k })
-unfolding turn
-without_is_desk terms desk k is = by (cursor_at desk.cursors k) refl where
-  closed : IsDesk (close_turn terms desk (pos 0) k (cursor_at desk.cursors k)).desk
-  closed = turn_is_desk terms desk (record { asked = record { id = pos 0; request = Ok (Close k) }; got = None }) is
-
-  by : (o : Option Cursor) → cursor_at desk.cursors k ≡ o → IsDesk (record desk { cursors = without desk.cursors k })
-  by None e = subst (λ (cs : List Cursor). IsDesk (record desk { cursors = cs })) (sym (without_absent k desk.cursors e)) is
-  by (Some cursor) e = subst (λ (o : Option Cursor). IsDesk (close_turn terms desk (pos 0) k o).desk) e closed
 
 -- ---- a new session, and more input
 

@@ -98,6 +98,9 @@ module _ (held now : State) (is : held ≡ now) where
   pub shown_keeps : (frame : List ℕ) (w : Waiting) → w ≡ after_push held.waiting frame → IsSound held → IsSound (record held { waiting = w })
   shown_keeps frame w e sound = subst (λ (x : Waiting). IsSound (record held { waiting = x })) (sym e) (pushed_sound held frame sound)
 
+  pub alone_held : now.waiting.frames ≡ [] → held.waiting.frames ≡ []
+  alone_held none = ap (λ (s : State). s.waiting.frames) is ∙ none
+
   pub same_is : (w : Waiting) → w ≡ held.waiting → record held { waiting = w } ≡ now
   same_is w e = ap (λ (x : Waiting). record held { waiting = x }) e ∙ is
 

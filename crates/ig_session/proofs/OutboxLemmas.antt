@@ -85,6 +85,9 @@ module _ (hello : List ℕ) (gone : ℕ) (replies now : Waiting) (is : waiting_a
   pub replies_are : length hello ≤ gone → replies ≡ now
   replies_are le = sym (hello_gone hello gone replies le) ∙ is
 
+  pub none_alone : now.frames ≡ [] → replies.frames ≡ []
+  none_alone none = (none_after hello gone replies (ap (λ (w : Waiting). w.frames) is ∙ none)).1
+
   pub shown_hello : (seen : List ℕ) → seen ≡ hello → length hello ≤ piece_bytes → gone < length hello → take (length seen - gone) (drop gone seen) ≡ piece_shown now
   shown_hello seen same short lt = take_rest seen gone ∙ ap (drop gone) same ∙ sym (hello_piece hello gone replies short lt) ∙ ap piece_shown is
 

@@ -6,6 +6,7 @@ use Rattle.ig_wire.specs.declared.head.Fault.{Fault}
 use Rattle.ig_caches.specs.declared.call.Call.{Call}
 use Rattle.ig_caches.specs.declared.request.Request.{Request}
 use Rattle.ig_caches.specs.declared.request.Request.TheVariants.{NextPage, Close}
+use Rattle.ig_deals.specs.Asks.{Asked}
 use Rattle.ig_deals.specs.Deals.{Got, call_for}
 use Rattle.ig_deals.specs.Desk.{Desk, without}
 use Rattle.ig_deals.specs.Hellos.{Greeting}
@@ -18,18 +19,17 @@ use Rattle.ig_session.specs.declared.phase.Phase.TheVariants.{Open}
 use Rattle.ig_session.specs.declared.awaited.Awaited.{Awaited}
 use Rattle.ig_session.specs.Awaiting.{deal_of, awaited_at, place_of_nth, without_nth}
 use Rattle.ig_session.specs.States.{State}
-use Rattle.ig_session.specs.Comings.{Greets, coming}
+use Rattle.ig_session.specs.Comings.{Greets, Asks, coming}
 use Rattle.ig_session.specs.Soundness.{IsSound}
 use Rattle.ig_session.specs.Requests.{asked_said, ComesRequest}
-use Rattle.ig_session.specs.Steps.{said, settled_in, answered, CanDraw, Takes, IsSpent, Lacks}
+use Rattle.ig_session.specs.Steps.{said, settled_in, answered, CanDraw, Takes, IsSpent}
 use Rattle.ig_session.specs.StepsAhead.{answered_nth}
 use Rattle.ig_session.proofs.NthLemmas.{nth_none, without_fewer}
 use Rattle.ig_session.proofs.NextLemmas.{nth_answered}
 use Rattle.ig_session.proofs.SoundLemmas.{desk_sound, fewer_draw, fewer_sound, page_next, close_next, turn_sound, undrawn_sound}
-use Rattle.ig_session.proofs.ChangeLemmas.{without_is_desk}
 use Rattle.ig_session.proofs.ComingLemmas.{comes_as}
 use Rattle.ig_session.proofs.ProgressLemmas.{answered_only}
-use Rattle.ig_session.proofs.TakenLemmas.{said_taken, said_lacks, turned_by, settled_ok, settled_err}
+use Rattle.ig_session.proofs.TakenLemmas.{said_taken, turned_by, settled_ok, settled_err}
 
 -- ---- the desk
 
@@ -47,12 +47,6 @@ closed_sound held terms id k frame desk is sound =
     subst (λ (d : Desk). IsSound (record held { desk = d })) (sym is.desk_is)
     (undrawn_sound held (terms_of terms) (record { asked = record { id = id; request = Ok (Close k) }; got = None }) (close_next (terms_of terms) held.desk id k None) sound)
 
--- a cursor was lost
-pub lost_sound : (held : State) (terms : Terms) (k : ℤ) (desk : Desk) → desk ≡ record held.desk { cursors = without held.desk.cursors k } → IsSound held → IsSound (record held { desk = desk })
-lost_sound held terms k desk is sound =
-    subst (λ (d : Desk). IsSound (record held { desk = d })) (sym is)
-    (desk_sound held (record held.desk { cursors = without held.desk.cursors k }) (without_is_desk (terms_of terms) held.desk k sound.desk) sound.cursors sound)
-
 pub same_desk_sound : (held : State) (desk : Desk) → desk ≡ held.desk → IsSound held → IsSound (record held { desk = desk })
 same_desk_sound held desk is sound = subst (λ (d : Desk). IsSound (record held { desk = d })) (sym is) sound
 
@@ -65,6 +59,9 @@ map_ok (Err lack) f h = tt
 pub map_err : {A E P Q : Type 0} (result : Result A E) → (P → Q) → OnErr result P → OnErr result Q
 map_err (Ok done) f h = tt
 map_err (Err lack) f h = f h
+
+pub ok_of : {A E P : Type 0} (result : Result A E) (done : A) → result ≡ Ok done → OnOk result P → P
+ok_of {A} {E} {P} result done e h = subst (λ (r : Result A E). OnOk r P) e h
 
 pub on_err : {A E P : Type 0} (result : Result A E) → P → OnErr result P
 on_err (Ok done) h = tt
@@ -92,33 +89,43 @@ pub comes_of : (s : State) (terms : Terms) (id shown : ℤ) (asked read : Result
 comes_of s terms id shown asked read same is comes =
     subst (λ (r : Result Request AskFault). ComesRequest s terms shown r) is (subst (λ (i : ℤ). ComesRequest s terms i asked) (sym same) comes)
 
+pub took_of : (call : Option Call) (s new : State) (terms : Terms) (id shown : ℤ) (asked read : Result Request AskFault) → shown ≡ id → asked ≡ read
+    → Takes terms (asked_said shown read) call s new → Takes terms (asked_said id asked) call s new
+took_of call s new terms id shown asked read same is given =
+    subst (λ (r : Result Request AskFault). Takes terms (asked_said id r) call s new) (sym is) (subst (λ (i : ℤ). Takes terms (asked_said i read) call s new) same given)
+
 pub takes_of : {E : Type 0} (result : Result (Option Call) E) (s new : State) (terms : Terms) (id shown : ℤ) (asked read : Result Request AskFault) → shown ≡ id → asked ≡ read
     → IfOk result (λ call. Takes terms (asked_said shown read) call s new) → IfOk result (λ call. Takes terms (asked_said id asked) call s new)
 takes_of result s new terms id shown asked read same is given =
     subst (λ (r : Result Request AskFault). IfOk result (λ call. Takes terms (asked_said id r) call s new)) (sym is)
     (subst (λ (i : ℤ). IfOk result (λ call. Takes terms (asked_said i read) call s new)) same given)
 
--- a hello was not answered for a lack of memory
-pub lacks_hello : (s new : State) (greeting : Greeting) → Greets greeting ≡ coming s → new ≡ s → Lacks s new
-lacks_hello s new greeting comes same = record { none_waits = (comes_as s (Greets greeting) (λ never. cc) (sym comes)).none_waits; left = inl same }
+-- no reply waits where a hello comes, or a request
+pub hello_alone : (s : State) (greeting : Greeting) → Greets greeting ≡ coming s → s.waiting.frames ≡ []
+hello_alone s greeting comes = (comes_as s (Greets greeting) (λ never. cc) (sym comes)).none_waits
+
+pub request_alone : (s : State) (terms : Terms) (asked : Asked) → coming s ≡ Asks terms asked → s.waiting.frames ≡ []
+request_alone s terms asked comes = (comes_as s (Asks terms asked) (λ never. cc) comes).none_waits
 
 module _ (held now : State) (is : held ≡ now) where
   -- ---- a request without a call
 
-  pub said_now : {E : Type 0} (result : Result (Option Call) E) (new : State) (terms : Terms) (id shown : ℤ) (read : Result Request AskFault) (request : Result Request Fault) (frame : Showing) (desk : Desk)
+  pub said_now : (new : State) (terms : Terms) (id shown : ℤ) (read : Result Request AskFault) (request : Result Request Fault) (frame : Showing) (desk : Desk)
       → shown ≡ id → request ≡ (asked_said id read).request → call_for request ≡ None → IsTurned (terms_of terms) (turn_for (terms_of terms) held.desk shown request None) frame desk
-      → IfOk result (λ call. (call ≡ None) × (new ≡ said frame.frame (record held { desk = desk }))) → IfOk result (λ call. Takes terms (asked_said id read) call now new)
-  said_now result new terms id shown read request frame desk same_id same none turned given =
-      subst (λ (s : State). IfOk result (λ call. Takes terms (asked_said id read) call s new)) is
-      (said_taken result held new terms (asked_said id read) frame desk (sym (ap call_for same) ∙ none)
+      → new ≡ said frame.frame (record held { desk = desk }) → Takes terms (asked_said id read) None now new
+  said_now new terms id shown read request frame desk same_id same none turned given =
+      subst (λ (s : State). Takes terms (asked_said id read) None s new) is
+      (said_taken held new terms (asked_said id read) frame desk (sym (ap call_for same) ∙ none)
       (turned_by (terms_of terms) held.desk desk id (asked_said id read).request None frame
       (subst (λ (r : Result Request Fault). IsTurned (terms_of terms) (turn_for (terms_of terms) held.desk id r None) frame desk) same
       (subst (λ (i : ℤ). IsTurned (terms_of terms) (turn_for (terms_of terms) held.desk i request None) frame desk) same_id turned))) given)
 
-  pub lacks_now : {A E : Type 0} (result : Result A E) (new : State) (terms : Terms) (id : ℤ) (read : Result Request AskFault) (desk : Desk) → ComesRequest now terms id read
-      → OnErr result (IsSpent (record held { desk = desk }) new held.out) → OnErr result (Lacks now new)
-  lacks_now result new terms id read desk comes spent =
-      subst (λ (s : State). OnErr result (Lacks s new)) is (said_lacks result held new terms (asked_said id read) desk (ap coming is ∙ comes.comes) spent)
+  -- no other reply waits
+  pub held_alone : (terms : Terms) (id : ℤ) (read : Result Request AskFault) → ComesRequest now terms id read → held.waiting.frames ≡ []
+  held_alone terms id read comes = ap (λ (s : State). s.waiting.frames) is ∙ request_alone now terms (asked_said id read) comes.comes
+
+  pub same_desk : (desk : Desk) → desk ≡ held.desk → record held { desk = desk } ≡ now
+  same_desk desk e = ap (λ (d : Desk). record held { desk = d }) e ∙ is
 
   -- ---- a call that was out
 

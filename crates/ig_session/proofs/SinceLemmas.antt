@@ -23,7 +23,7 @@ use Rattle.ig_session.specs.Histories.{StandsOn}
 use Rattle.ig_session.specs.States.{State}
 use Rattle.ig_session.specs.Comings.{IsPaused, coming}
 use Rattle.ig_session.specs.Soundness.{IsSound}
-use Rattle.ig_session.specs.Steps.{next_step, answered, IsSpent, Lacks}
+use Rattle.ig_session.specs.Steps.{next_step, answered, IsSpent}
 use Rattle.ig_session.specs.StandsFor.{first_gone, ShowsSoFar, ShowsIn, Stands}
 use Rattle.ig_session.specs.Serving.{SentFirst, EndsAnswering, AnswersAll}
 use Rattle.ig_session.proofs.HistoryLemmas.{StandsOn-nothing, joins_keeps}

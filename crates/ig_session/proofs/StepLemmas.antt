@@ -17,7 +17,7 @@ use Rattle.ig_session.specs.declared.phase.Phase.TheVariants.{BeforeHello, Open,
 use Rattle.ig_session.specs.declared.awaited.Awaited.{Awaited}
 use Rattle.ig_session.specs.States.{State}
 use Rattle.ig_session.specs.Comings.{Coming, Replies, Stops, Misses, Greets, Asks, coming}
-use Rattle.ig_session.specs.Steps.{step_to, asked_next, next_step, IsSpent, Lacks}
+use Rattle.ig_session.specs.Steps.{step_to, asked_next, next_step}
 use Rattle.ig_session.specs.Soundness.{IsSound}
 use Rattle.ig_session.specs.StandsFor.{ShowsIn, IsIn, AwaitFrom, Stands}
 use Rattle.ig_session.specs.Laws.{StandsAfter}
@@ -51,31 +51,3 @@ cut_in BeforeHello frames w output one so = may_be_cut frames w output one so
 cut_in (Open terms) frames w output one so = may_be_cut frames w output one so
 cut_in (Refused fault) frames w output one so = may_be_cut frames w output one so
 cut_in OutOfMemory frames w output one so = so.1
-
-spent_stands : (s new : State) (input : List ℕ) (ran : List Ran) (output : List ℕ) → s.waiting.frames ≡ [] → IsSpent s new s.out → Stands s input ran [] output → Stands new input ran [] output
-spent_stands s new input ran output none spent stood =
-    let closed = nothing_pending (length ran) s.out stood.pending stood.awaited in
-    record {
-      bodies = stood.bodies;
-      read = subst (λ (t : Stream). HandedOut client t input stood.bodies) (sym spent.stream) stood.read;
-      are_bytes = subst (λ (t : Stream). AreBytes t.rest) (sym spent.stream) stood.are_bytes;
-      settled = stood.settled;
-      pending = stood.pending;
-      asked = stood.asked;
-      handed_out = stood.handed_out;
-      awaited = subst (λ (l : List Awaited). AwaitFrom (length ran) l stood.pending []) (sym spent.out_are) stood.awaited;
-      count = spent.handed ∙ stood.count ∙ ap (λ (l : List Awaited). length ran + length l) (sym spent.out_are);
-      phase = subst (λ (p : Phase). IsIn p new.cfg new.desk new.out stood.bodies ran) (sym spent.phase) (spent.out_are ∙ closed.0);
-      shows = subst (λ (p : Phase). ShowsIn p (out_frames new.cfg session_manner stood.bodies (gots ran)) new.waiting output) (sym spent.phase) (
-        ap (λ (w : Waiting). w.frames) spent.waiting ∙ none,
-        subst (λ (c : SessionCfg). ShowsPart (out_frames c session_manner stood.bodies (gots ran)) output) (sym spent.cfg)
-            (cut_in s.phase (out_frames s.cfg session_manner stood.bodies (gots ran)) s.waiting output (omega (arith, stood.one)) stood.shows),
-      );
-      one = omega (arith, stood.one, ap length spent.out_are, ap (λ (w : Waiting). length w.frames) spent.waiting);
-    }
-
-pub lack_stands : (s new : State) (input : List ℕ) (ran : List Ran) (output : List ℕ) → Lacks s new → Stands s input ran [] output → Stands new input ran [] output
-lack_stands s new input ran output lacks stood = elim lacks.left [
-  | inl same ↦ subst (λ (n : State). Stands n input ran [] output) (sym same) stood
-  | inr spent ↦ spent_stands s new input ran output lacks.none_waits spent stood
-]

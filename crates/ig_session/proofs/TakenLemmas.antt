@@ -24,8 +24,8 @@ use Rattle.ig_session.specs.Awaiting.{awaits_of, request_of, deal_of}
 use Rattle.ig_session.specs.Comings.{Asks, coming}
 use Rattle.ig_session.specs.Requests.{asked_said, ComesAny, ComesRequest}
 use Rattle.ig_session.specs.States.{State}
-use Rattle.ig_session.specs.Steps.{said, out_with, settled, settled_in, Takes, IsSpent, Lacks}
-use Rattle.ig_session.proofs.ChangeLemmas.{lacks_same, lacks_spent, spent_at, said_settled, shown_settled}
+use Rattle.ig_session.specs.Steps.{said, out_with, settled, settled_in, Takes, IsSpent}
+use Rattle.ig_session.proofs.ChangeLemmas.{spent_at, said_settled, shown_settled}
 
 -- ---- a call was handed out
 
@@ -38,23 +38,12 @@ taken (Ok handed) s new terms id request call awaits is awaits_is runnable given
     (is, runnable, given.1 ∙ ap (λ (a : Awaits). out_with (record { nth = s.handed; id = id; awaits = a }) s) awaits_is)
 taken (Err lack) s new terms id request call awaits is awaits_is runnable given = tt
 
-pub lacks_if_same : {A E : Type 0} (result : Result A E) (s new : State) (terms : HeldTerms) (asked : Asked) → coming s ≡ Asks terms asked → OnErr result (new ≡ s) → OnErr result (Lacks s new)
-lacks_if_same (Ok done) s new terms asked comes same = tt
-lacks_if_same (Err lack) s new terms asked comes same = lacks_same s new terms asked comes same
-
 -- ---- a request was replied
 
-pub said_taken : {E : Type 0} (result : Result (Option Call) E) (s new : State) (terms : HeldTerms) (asked : Asked) (frame : Showing) (desk : Desk) → call_for asked.request ≡ None
+pub said_taken : (s new : State) (terms : HeldTerms) (asked : Asked) (frame : Showing) (desk : Desk) → call_for asked.request ≡ None
     → IsTurned (terms_of terms) (turn (terms_of terms) s.desk (record { asked = asked; got = None })) frame desk
-    → IfOk result (λ call. (call ≡ None) × (new ≡ said frame.frame (record s { desk = desk }))) → IfOk result (λ call. Takes terms asked call s new)
-said_taken (Ok call) s new terms asked frame desk none is given =
-    subst (λ (h : Option Call). Takes terms asked h s new) (sym given.0) (none, given.1 ∙ said_settled s terms asked frame desk is)
-said_taken (Err lack) s new terms asked frame desk none is given = tt
-
-pub said_lacks : {A E : Type 0} (result : Result A E) (s new : State) (terms : HeldTerms) (asked : Asked) (desk : Desk) → coming s ≡ Asks terms asked
-    → OnErr result (IsSpent (record s { desk = desk }) new s.out) → OnErr result (Lacks s new)
-said_lacks (Ok done) s new terms asked desk comes spent = tt
-said_lacks (Err lack) s new terms asked desk comes spent = lacks_spent s new terms asked comes (spent_at s new desk s.out spent)
+    → new ≡ said frame.frame (record s { desk = desk }) → Takes terms asked None s new
+said_taken s new terms asked frame desk none is given = (none, given ∙ said_settled s terms asked frame desk is)
 
 -- the turn of a request
 pub turned_by : (terms : Terms) (desk now : Desk) (id : ℤ) (request : Result Request Fault) (got : Option Got) (frame : Showing) → IsTurned terms (turn_for terms desk id request got) frame now

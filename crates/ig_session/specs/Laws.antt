@@ -15,7 +15,7 @@ use Rattle.ig_session.specs.declared.step.Step.TheVariants as steps
 use Rattle.ig_session.specs.Comings.{Misses, coming}
 use Rattle.ig_session.specs.States.{State, new_state}
 use Rattle.ig_session.specs.Soundness.{IsSound}
-use Rattle.ig_session.specs.Steps.{fed, written, next_step, answered, IsSpent, Lacks, end_at}
+use Rattle.ig_session.specs.Steps.{fed, written, next_step, answered, IsSpent, end_at}
 use Rattle.ig_session.specs.StandsFor.{Stands}
 
 abbrev pub NewStands : Type 0
@@ -50,11 +50,6 @@ LostAnswerStands =
     (s new : State) (input : List ℕ) (ran : List Ran) (call : Call) (got : Got) (output : List ℕ)
     → IsSpent s new [] → Stands s input ran (call ∷ []) output
     → Stands new input (ran ++ record { call = call; got = got } ∷ []) [] output
-
-abbrev pub LackStands : Type 0
-LackStands =
-    (s new : State) (input : List ℕ) (ran : List Ran) (output : List ℕ) → Lacks s new
-    → Stands s input ran [] output → Stands new input ran [] output
 
 -- what is written of the piece that is shown adds to the output
 abbrev pub WrittenStands : Type 0

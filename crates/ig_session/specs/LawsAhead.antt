@@ -13,7 +13,7 @@ use Rattle.ig_session.specs.declared.step.Ahead.TheVariants as steps
 use Rattle.ig_session.specs.States.{State, new_state}
 use Rattle.ig_session.specs.Soundness.{IsSound}
 use Rattle.ig_session.specs.Comings.{Misses, coming}
-use Rattle.ig_session.specs.Steps.{fed, written, IsSpent, Lacks, end_at}
+use Rattle.ig_session.specs.Steps.{fed, written, IsSpent, end_at}
 use Rattle.ig_session.specs.Awaiting.{without_nth}
 use Rattle.ig_session.specs.StepsAhead.{step_ahead, answered_nth}
 use Rattle.ig_session.specs.StandsAhead.{HandedAhead, StandsAhead}
@@ -62,11 +62,6 @@ LostAnswerStandsAhead =
     (limit : ℕ) (s new : State) (input : List ℕ) (ran : List HandedAhead) (order output : List ℕ) (nth : ℕ) (call : Call) (got : Got)
     → slice_get ran nth ≡ Some (record { call = call; got = None }) → IsSpent s new (without_nth s.out nth)
     → StandsAhead limit s input ran order output → StandsAhead limit new input (with_got ran nth got) order output
-
-abbrev pub LackStandsAhead : Type 0
-LackStandsAhead =
-    (limit : ℕ) (s new : State) (input : List ℕ) (ran : List HandedAhead) (order output : List ℕ) → Lacks s new
-    → StandsAhead limit s input ran order output → StandsAhead limit new input ran order output
 
 abbrev pub WrittenStandsAhead : Type 0
 WrittenStandsAhead =

@@ -1,5 +1,5 @@
 -- What each call on a session leads to, where calls are answered in the order of their requests.
-use Rattle.std.specs.Prelude.{◌≡◌, ◌⊎◌, ◌+◌, ◌<◌, ℕ, suc, List, [], ◌∷◌, ◌++◌, length, Option, None, Some, Result, Ok, Err}
+use Rattle.std.specs.Prelude.{◌≡◌, ◌+◌, ◌<◌, ℕ, suc, List, [], ◌∷◌, ◌++◌, length, Option, None, Some, Result, Ok, Err}
 use Rattle.ig_base.specs.declared.memory.NoRoom.{NoRoom}
 use Rattle.ig_base.specs.Frames.{Frame}
 use Rattle.ig_wire.specs.declared.version.Version.{Version}
@@ -171,11 +171,6 @@ pub record IsSpent (old new : State) (out : List Awaited) : Type 0 where
   pub out_are : new.out ≡ out
   pub handed : new.handed ≡ old.handed
   pub waiting : new.waiting ≡ old.waiting
-
--- reading ran out of memory where no reply waited: nothing was read, and the session is as before, or it has ended
-pub record Lacks (old new : State) : Type 0 where
-  pub none_waits : old.waiting.frames ≡ []
-  pub left : (new ≡ old) ⊎ IsSpent old new old.out
 
 abbrev pub end_after : Phase → List ℕ → ℕ → SessionEnd
 end_after (Open terms) [] missing = ends.Ended

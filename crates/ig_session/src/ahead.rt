@@ -1,6 +1,7 @@
 //! A session of which several calls may be out, and are answered in any order.
 
-ghost use Rattle.std.specs.Prelude.{◌≡◌, ◌≢◌, ◌≤◌, true, false, [], IfOk, OnOk, OnErr, IsSome};
+ghost use Rattle.std.specs.Prelude.{◌≡◌, ◌≢◌, ◌≤◌, true, false, [], Ok, IfOk, OnOk, OnErr, IsSome};
+ghost use Rattle.ig_deals.specs.Deals.{NoMemory as LacksMemory};
 ghost use Rattle.std.specs.List.{list_any};
 ghost use Rattle.ig_session.specs.declared.awaited.Awaited.{Awaited as a_call_out};
 ghost use Rattle.ig_session.specs.declared.phase.Phase.TheVariants.{OutOfMemory};
@@ -10,7 +11,7 @@ ghost use Rattle.ig_session.specs.Awaiting.{is_scan, awaited_at, place_of_nth, w
 ghost use Rattle.ig_session.specs.Comings.{coming};
 ghost use Rattle.ig_session.specs.Requests.{coming_said, IsServable, HandsRunnableAhead};
 ghost use Rattle.ig_session.specs.Soundness.{IsSound};
-ghost use Rattle.ig_session.specs.Steps.{given, IsSpent, Lacks};
+ghost use Rattle.ig_session.specs.Steps.{given, IsSpent};
 ghost use Rattle.ig_session.specs.StepsAhead.{waits_for_all, is_full, stop_or_wait, step_on, step_ahead, answered_nth};
 
 use crate::awaited::{Awaited, Awaits};
@@ -67,7 +68,8 @@ impl Session {
         requires most { limit ≤ 16 }
         ensures ok { IfOk result (λ step. (step, self.new) ≡ step_ahead limit self.old) }
         ensures runnable { IfOk result HandsRunnableAhead }
-        ensures err { OnErr result (Lacks self.old self.new) }
+        ensures err { OnErr result (self.new ≡ self.old) }
+        ensures none { OnErr result (self.old.waiting.frames ≡ []) }
         ensures sound { IsSound self.old }
     {
         self.sound_now();
@@ -127,13 +129,14 @@ impl Session {
         }
     }
 
-    /// Goes on with what comes next.
+    /// Goes on with what comes next. On an error the session is as before.
     fn step_on(&mut self, next: Coming) -> Result<Ahead, NoMemory>
         requires next { coming_said next ≡ coming self.old }
         requires servable { IsServable next }
         ensures ok { IfOk result (λ step. (step, self.new) ≡ step_on self.old (coming_said next)) }
         ensures runnable { IfOk result HandsRunnableAhead }
-        ensures err { OnErr result (Lacks self.old self.new) }
+        ensures err { OnErr result (self.new ≡ self.old) }
+        ensures none { OnErr result (self.old.waiting.frames ≡ []) }
     {
         match next {
             Coming::Replies => Ok(Ahead::Out),
@@ -158,7 +161,8 @@ impl Session {
     }
 
     /// Takes what was given for the call with this number, which is out, and replies to its request. The
-    /// reply waits after the others. It changes no reply to another request.
+    /// reply waits after the others. It changes no reply to another request. Where the caller had no memory
+    /// for the call, the reply says so; no memory is taken for it where no other reply waits.
     ///
     /// # Errors
     ///
@@ -170,6 +174,7 @@ impl Session {
     ) -> Result<(), NoMemory>
         requires { IsSome (awaited_at self.old.out nth) }
         ensures ok { OnOk result (self.new ≡ answered_nth self.old nth (given got)) }
+        ensures free { self.old.waiting.frames ≡ [] → given got ≡ LacksMemory → result ≡ Ok tt }
         ensures err { OnErr result (IsSpent self.old self.new (without_nth self.old.out nth)) }
     {
         match index_of(&self.out, nth) {

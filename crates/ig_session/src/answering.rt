@@ -1,7 +1,7 @@
 //! Replies to requests whose calls were answered.
 
-ghost use Rattle.std.specs.Prelude.{◌≡◌, Some, IfOk, OnOk, OnErr};
-ghost use Rattle.ig_deals.specs.Deals.{Had};
+ghost use Rattle.std.specs.Prelude.{◌≡◌, [], Some, Ok, IfOk, OnOk, OnErr};
+ghost use Rattle.ig_deals.specs.Deals.{Had, NoMemory as LacksMemory};
 ghost use Rattle.ig_deals.specs.Turns.{turn};
 ghost use Rattle.ig_replies.specs.RunTerms.{terms_of, AreTerms};
 ghost use Rattle.ig_replies.specs.Showing.{showing, after_push};
@@ -44,7 +44,8 @@ fn reply_to(
 }
 
 impl Session {
-    /// Replies to a request whose call was out, and is out no more. On an error the session has ended.
+    /// Replies to a request whose call was out, and is out no more. Where the caller had no memory for it and
+    /// no reply waits, it takes none. On an error the session has ended.
     pub(crate) fn settle(
         &mut self,
         awaited: Awaited,
@@ -53,6 +54,7 @@ impl Session {
         requires { CanDraw self.old }
         ensures ok { OnOk result (self.new
             ≡ settled_in self.old.phase self.old awaited (given got)) }
+        ensures free { self.old.waiting.frames ≡ [] → given got ≡ LacksMemory → result ≡ Ok tt }
         ensures err { OnErr result (IsSpent self.old self.new self.old.out) }
     {
         let Phase::Open(terms) = self.phase else {
@@ -70,11 +72,13 @@ impl Session {
         }
     }
 
-    /// Adds a reply after the others. On an error the session has ended.
+    /// Adds a reply after the others. Where none waits it takes no memory, and gives no error. On an error
+    /// the session has ended.
     pub(crate) fn show(&mut self, frame: ReplyFrame) -> Result<(), NoMemory>
         requires { frame ≡ showing frame.frame }
         ensures ok { OnOk result (self.new
             ≡ record self.old { waiting = after_push self.old.waiting frame.frame }) }
+        ensures first { self.old.waiting.frames ≡ [] → result ≡ Ok tt }
         ensures err { OnErr result (IsSpent self.old self.new self.old.out) }
     {
         match self.outbox.push(frame) {

@@ -5,7 +5,7 @@ ghost use Rattle.ig_caches.specs.declared.request.Request.TheVariants.{Run, Next
 ghost use Rattle.ig_replies.specs.Showing.{showing};
 ghost use Rattle.ig_session.specs.Awaiting.{awaits_of as awaits_for};
 ghost use Rattle.ig_session.specs.Requests.{asked_said, ComesAny, ComesRequest};
-ghost use Rattle.ig_session.specs.Steps.{said, out_with, Takes, IsSpent, Lacks};
+ghost use Rattle.ig_session.specs.Steps.{said, out_with, Takes};
 
 use crate::awaited::{Awaited, Awaits};
 use crate::session::Session;
@@ -29,7 +29,8 @@ fn awaits_of(alloc: Global, call: &Call) -> Result<Awaits, NoMemory>
 }
 
 impl Session {
-    /// Passes a request that was read, and replies to it or hands out its call, if it has one.
+    /// Passes a request that was read, and replies to it or hands out its call, if it has one. On an error
+    /// the session is as before.
     pub(crate) fn take(
         &mut self,
         terms: Terms,
@@ -39,7 +40,7 @@ impl Session {
         requires { ComesRequest self.old terms id asked }
         ensures ok { IfOk result (λ call. Takes terms (asked_said id asked) call
             self.old self.new) }
-        ensures err { OnErr result (Lacks self.old self.new) }
+        ensures err { OnErr result (self.new ≡ self.old) }
     {
         match asked {
             Err(fault) => self.refuse(terms, id, fault),
@@ -52,11 +53,14 @@ impl Session {
                 self.hand_out(id, Awaits::Scan { cache, page }, call)
             }
             Ok(Request::NextPage { cursor }) => self.turn_page(terms, id, cursor),
-            Ok(Request::Close { resource }) => self.close(terms, id, resource),
+            Ok(Request::Close { resource }) => {
+                self.close(terms, id, resource);
+                Ok(None)
+            }
         }
     }
 
-    /// Hands out a call.
+    /// Hands out a call. On an error the session is as before.
     fn hand_out(&mut self, id: i64, awaits: Awaits, call: Call) -> Result<Option<Call>, NoMemory>
         requires { ComesAny self.old }
         ensures ok { IfOk result (λ handed. (handed ≡ Some call) × (self.new
@@ -70,50 +74,47 @@ impl Session {
         Ok(Some(call))
     }
 
-    /// Replies to a request that is refused.
+    /// Replies to a request that is refused. On an error the session is as before.
     fn refuse(&mut self, terms: Terms, id: i64, fault: AskFault) -> Result<Option<Call>, NoMemory>
         requires { ComesRequest self.old terms id (Err fault) }
         ensures ok { IfOk result (λ call. Takes terms (asked_said id (Err fault)) call
             self.old self.new) }
-        ensures err { OnErr result (Lacks self.old self.new) }
+        ensures err { OnErr result (self.new ≡ self.old) }
     {
         let frame = refuse(self.alloc, &terms, id, fault)?;
-        self.say(frame)
+        self.say(frame);
+        Ok(None)
     }
 
-    /// Replies to a request for the next page of a cursor.
+    /// Replies to a request for the next page of a cursor. On an error the session is as before.
     fn turn_page(&mut self, terms: Terms, id: i64, cursor: i64) -> Result<Option<Call>, NoMemory>
         requires { ComesRequest self.old terms id (Ok (NextPage cursor)) }
         ensures ok { IfOk result (λ call. Takes terms (asked_said id (Ok (NextPage cursor))) call
             self.old self.new) }
-        ensures err { OnErr result (Lacks self.old self.new) }
+        ensures err { OnErr result (self.new ≡ self.old) }
     {
-        match next_page(&terms, &mut self.desk, id, cursor) {
-            Ok(frame) => self.say(frame),
-            Err(_) => self.run_out(),
-        }
+        let frame = next_page(&terms, &mut self.desk, id, cursor)?;
+        self.say(frame);
+        Ok(None)
     }
 
     /// Closes a cursor. Takes no memory.
-    fn close(&mut self, terms: Terms, id: i64, resource: i64) -> Result<Option<Call>, NoMemory>
+    fn close(&mut self, terms: Terms, id: i64, resource: i64)
         requires { ComesRequest self.old terms id (Ok (Close resource)) }
-        ensures ok { IfOk result (λ call. Takes terms (asked_said id (Ok (Close resource))) call
-            self.old self.new) }
-        ensures err { OnErr result (Lacks self.old self.new) }
+        ensures { Takes terms (asked_said id (Ok (Close resource))) None self.old self.new }
     {
         let frame = close(&terms, &mut self.desk, id, resource);
-        self.say(frame)
+        self.say(frame);
     }
 
-    /// Adds the reply to the request that comes next, and passes the request. On an error the session has
-    /// ended.
-    fn say(&mut self, frame: ReplyFrame) -> Result<Option<Call>, NoMemory>
-        requires { frame ≡ showing frame.frame }
-        ensures ok { IfOk result (λ call. (call ≡ None) × (self.new ≡ said frame.frame self.old)) }
-        ensures err { OnErr result (IsSpent self.old self.new self.old.out) }
+    /// Adds the reply to the request that comes next, and passes the request. No other reply waits, so it
+    /// takes no memory.
+    fn say(&mut self, frame: ReplyFrame)
+        requires shown { frame ≡ showing frame.frame }
+        requires none { self.old.waiting.frames ≡ [] }
+        ensures { self.new ≡ said frame.frame self.old }
     {
-        self.show(frame)?;
+        let _ = self.show(frame);
         self.pass();
-        Ok(None)
     }
 }

@@ -1,8 +1,8 @@
 //! Laws of what a session stands for. These functions do nothing; their contracts say what holds of
 //! each step.
 
-ghost use Rattle.ig_session.specs.Laws.{NewStands, FedStands, StepStands, AnswerStands, LostAnswerStands, LackStands, WrittenStands, StopIsEnd, FaultIsEnd, PauseIsEnd};
-ghost use Rattle.ig_session.specs.LawsAhead.{NewStandsAhead, FedStandsAhead, StepStandsAhead, AnswerStandsAhead, LostAnswerStandsAhead, LackStandsAhead, WrittenStandsAhead, StopIsEndAhead, FaultIsEndAhead, PauseIsEndAhead};
+ghost use Rattle.ig_session.specs.Laws.{NewStands, FedStands, StepStands, AnswerStands, LostAnswerStands, WrittenStands, StopIsEnd, FaultIsEnd, PauseIsEnd};
+ghost use Rattle.ig_session.specs.LawsAhead.{NewStandsAhead, FedStandsAhead, StepStandsAhead, AnswerStandsAhead, LostAnswerStandsAhead, WrittenStandsAhead, StopIsEndAhead, FaultIsEndAhead, PauseIsEndAhead};
 
 /// A session stands for the input that it was fed, the calls that it handed out with what was given for
 /// them, and the output that was written: nothing at first, and the longer lists after each call. A
@@ -13,7 +13,6 @@ pub fn sessions_stand()
     ensures step { StepStands }
     ensures answer { AnswerStands }
     ensures lost { LostAnswerStands }
-    ensures lack { LackStands }
     ensures written { WrittenStands }
 {}
 
@@ -25,7 +24,6 @@ pub fn sessions_stand_ahead()
     ensures step { StepStandsAhead }
     ensures answer { AnswerStandsAhead }
     ensures lost { LostAnswerStandsAhead }
-    ensures lack { LackStandsAhead }
     ensures written { WrittenStandsAhead }
 {}
 

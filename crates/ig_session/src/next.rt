@@ -1,9 +1,10 @@
 //! A session whose calls are answered in the order of their requests.
 
-ghost use Rattle.std.specs.Prelude.{◌≡◌, [], length, IfOk, OnOk, OnErr};
+ghost use Rattle.std.specs.Prelude.{◌≡◌, [], length, Ok, IfOk, OnOk, OnErr};
+ghost use Rattle.ig_deals.specs.Deals.{NoMemory as LacksMemory};
 ghost use Rattle.ig_session.specs.Requests.{HandsRunnable};
 ghost use Rattle.ig_session.specs.Soundness.{IsSound};
-ghost use Rattle.ig_session.specs.Steps.{next_step, given, answered, IsSpent, Lacks};
+ghost use Rattle.ig_session.specs.Steps.{next_step, given, answered, IsSpent};
 
 use crate::coming::Coming;
 use crate::session::Session;
@@ -22,13 +23,14 @@ impl Session {
     ///
     /// # Errors
     ///
-    /// [`NoMemory`] if there is none to read the frame or for the reply to it. The frame isn't read then,
-    /// and the session is as before, or it has ended for the lack of memory.
+    /// [`NoMemory`] if there is none to read the frame, for its call or for the reply to it. The frame isn't
+    /// passed then, and the session is as before.
     pub fn next_request(&mut self) -> Result<Step, NoMemory>
         requires { self.old.out ≡ [] }
         ensures ok { IfOk result (λ step. (step, self.new) ≡ next_step self.old) }
         ensures runnable { IfOk result HandsRunnable }
-        ensures err { OnErr result (Lacks self.old self.new) }
+        ensures err { OnErr result (self.new ≡ self.old) }
+        ensures none { OnErr result (self.old.waiting.frames ≡ []) }
         ensures sound { IsSound self.old }
     {
         self.sound_now();
@@ -52,7 +54,8 @@ impl Session {
     }
 
     /// Takes what was given for the only call that is out, and replies to its request. Where the caller
-    /// had no memory for the call, the reply says so, and no memory is taken.
+    /// had no memory for the call, the reply says so; no memory is taken for it where no other reply waits,
+    /// as none does when `next_request` hands out a call.
     ///
     /// # Errors
     ///
@@ -61,6 +64,7 @@ impl Session {
     pub fn answer(&mut self, got: Result<Answer, NoRoom<Call>>) -> Result<(), NoMemory>
         requires { length self.old.out ≡ 1 }
         ensures ok { OnOk result (self.new ≡ answered self.old (given got)) }
+        ensures free { self.old.waiting.frames ≡ [] → given got ≡ LacksMemory → result ≡ Ok tt }
         ensures err { OnErr result (IsSpent self.old self.new []) }
     {
         match self.out.pop() {

@@ -26,7 +26,7 @@ impl Model for Outbox {
 }
 
 impl Outbox {
-    ghost use Rattle.std.specs.Prelude.{◌≡◌, ◌<◌, ◌≤◌, ◌↔◌, [], length, IfOk, OnOk, OnErr, IsTrue};
+    ghost use Rattle.std.specs.Prelude.{◌≡◌, ◌<◌, ◌≤◌, ◌↔◌, [], length, Ok, IfOk, OnOk, OnErr, IsTrue};
     ghost use Rattle.ig_wire.specs.Limits.{piece_bytes};
     ghost use Rattle.ig_replies.specs.Showing.{waiting_none, piece_shown, after_gone, after_push, showing};
 
@@ -86,10 +86,12 @@ impl Outbox {
         self.gone = 0;
     }
 
-    /// Adds a reply to a request. Where nothing waits it takes no memory. On an error all is as before.
+    /// Adds a reply to a request. Where nothing waits it takes no memory, and gives no error. On an error all
+    /// is as before.
     pub(crate) fn push(&mut self, frame: ReplyFrame) -> Result<(), NoMemory>
         requires { frame ≡ showing frame.frame }
         ensures ok { OnOk result (self.new ≡ after_push self.old frame.frame) }
+        ensures first { self.old.frames ≡ [] → result ≡ Ok tt }
         ensures err { OnErr result (self.new ≡ self.old) }
     {
         self.replies.push(frame)

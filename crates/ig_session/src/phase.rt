@@ -10,7 +10,7 @@ use ig_wire::{ASK_HEAD, HelloFault, LEAST_HELLO};
 ///                 reads an accepted hello
 ///   BeforeHello ---------------------------> Open
 ///        |                                     |
-///        | next_request or ahead               | answer, answer_nth, next_request or ahead
+///        | next_request or ahead               | answer or answer_nth
 ///        | reads a refused hello               | has no memory for a reply
 ///        v                                     v
 ///     Refused                             OutOfMemory

@@ -1,7 +1,10 @@
-use ig_session::*;
-use ig_base::{NoMemory, NoRoom, Octets, Text};
-use ig_caches::{Answer, Caches, Call, Exec, Outcome};
-use ig_link::{MemLink, ReadStep};
+ghost use Rattle.std.specs.Prelude.{◌≡◌, ◌≢◌, ◌<◌, ℕ, true, [], IfOk, IsSome};
+ghost use Rattle.ig_session.specs.Awaiting.{awaited_at};
+
+use ig_base::{Items, NoMemory, NoRoom, Octets, Text};
+use ig_caches::{Answer, Caches, Exec, Outcome};
+use ig_link::{MemLink, ReadStep, WriteStep};
+use ig_session::{Ahead, Alone, Session, SessionCfg, SessionEnd, Step, serve_link};
 use ig_wire::{HelloFault, Version};
 use std::alloc::Global;
 use std::test::Fail;
@@ -26,6 +29,13 @@ const TWO_PUTS_AND_SCAN: [u8; 99] = [
     0xB9, 5, 0x33, 0, 0, 101, 2, 0, 0, 0, 0xFF, 0xFF, 0xFF, 0xFF, 0,
 ];
 
+/// What the session with a scan answers.
+const SCANNED: [u8; 86] = [
+    1, 0, 0, 0, 1, 12, 0, 0, 0, 1, 0, 0, 0, 0, 0, 0, 0, 0, 0, 0, 0, 12, 0, 0, 0, 2, 0, 0, 0, 0, 0,
+    0, 0, 0, 0, 0, 0, 45, 0, 0, 0, 3, 0, 0, 0, 0, 0, 0, 0, 0, 0, 0, 0, 1, 0, 0, 0, 0, 0, 0, 0, 2,
+    0, 0, 0, 3, 1, 0, 0, 0, 3, 2, 0, 0, 0, 3, 3, 0, 0, 0, 3, 4, 0, 0, 0, 0,
+];
+
 /// A caller over the one cache `main`.
 fn caches(alloc: Global) -> Result<Caches, Fail> {
     let mut names = Vec::new(alloc);
@@ -33,39 +43,76 @@ fn caches(alloc: Global) -> Result<Caches, Fail> {
     Ok(Caches::start(alloc, names)?)
 }
 
-/// A link whose reads give these bytes.
-fn link(alloc: Global, bytes: &[u8]) -> Result<MemLink, Fail> {
+// ---- sessions over a link
+
+/// A link that gives these bytes by `step` bytes, and takes at most as many at once.
+fn link(alloc: Global, bytes: &[u8], step: usize) -> Result<MemLink, NoMemory>
+    requires { 0 < step }
+{
     let mut reads = Vec::new(alloc);
-    reads.push(ReadStep::Bytes(Octets::new(Vec::from_slice(alloc, bytes)?)))?;
-    Ok(MemLink::new(alloc, reads, Vec::new(alloc), 1 << 10)?)
+    let mut writes = Vec::new(alloc);
+    for piece in bytes.chunks(step) {
+        reads.push(ReadStep::Bytes(Octets::new(Vec::from_slice(alloc, piece)?)))?;
+        writes.push(WriteStep::AtMost(step))?;
+    }
+    MemLink::new(alloc, reads, writes, 1 << 10)
 }
 
-/// How a session ends whose input is cut off at these lengths.
-static ENDS: [(usize, SessionEnd); 6] = [
-    (0, SessionEnd::Truncated { missing: 4 }),
-    (5, SessionEnd::Truncated { missing: 7 }),
-    (12, SessionEnd::Ended),
-    (14, SessionEnd::Truncated { missing: 2 }),
-    (18, SessionEnd::Truncated { missing: 23 }),
-    (41, SessionEnd::Ended),
-];
-
-/// How a session over these bytes ends.
-fn end_over(alloc: Global, bytes: &[u8]) -> Result<SessionEnd, Fail> {
-    let mut link = link(alloc, bytes)?;
+/// How a session over the first bytes of these ends, and whether it writes this.
+fn ends_so(
+    alloc: Global,
+    bytes: &[u8],
+    len: usize,
+    step: usize,
+    written: &[u8],
+) -> Result<(SessionEnd, bool), Fail>
+    requires { 0 < step }
+{
+    let mut link = link(alloc, &bytes[..len.min(bytes.len())], step)?;
     let mut caller = Alone::new(caches(alloc)?);
-    Ok(serve_link(alloc, &mut caller, &mut link, &CFG))
+    let end = serve_link(alloc, &mut caller, &mut link, &CFG);
+    Ok((end, link.written() == Some(written)))
 }
+
+/// How the session with a scan ends where its input is cut off at a length, and how many bytes of its output
+/// are written then.
+static ENDS: [(usize, SessionEnd, usize); 8] = [
+    (0, SessionEnd::Truncated { missing: 4 }, 0),
+    (5, SessionEnd::Truncated { missing: 7 }, 0),
+    (12, SessionEnd::Ended, 5),
+    (14, SessionEnd::Truncated { missing: 2 }, 5),
+    (18, SessionEnd::Truncated { missing: 23 }, 5),
+    (41, SessionEnd::Ended, 21),
+    (70, SessionEnd::Ended, 37),
+    (99, SessionEnd::Ended, 86),
+];
 
 #[test]
 fn sessions_end_where_their_input_ends(rt: HostRuntime) -> Result<(), Fail> {
-    for (len, end) in &ENDS {
-        assert_eq!(rt; end_over(rt.alloc(), &HELLO_AND_PUT[..*len])?, *end);
+    for (len, end, written) in &ENDS {
+        let output = &SCANNED[..SCANNED.len().min(*written)];
+        let ended = ends_so(rt.alloc(), &TWO_PUTS_AND_SCAN, *len, 65_536, output)?;
+        assert_eq!(rt; ended, (*end, true));
     }
     Ok(())
 }
 
-/// The version that a refused hello asked for, and the offset of a length out of range.
+#[test]
+fn pieces_of_any_length_give_the_same_output(rt: HostRuntime) -> Result<(), Fail> {
+    for step in [1, 2, 3, 5, 7, 11, 40, 98, 99] {
+        let ended = ends_so(rt.alloc(), &TWO_PUTS_AND_SCAN, 99, step, &SCANNED)?;
+        assert_eq!(rt; ended, (SessionEnd::Ended, true));
+    }
+    Ok(())
+}
+
+/// The reply to a hello of version 1.7.0.
+const REFUSED: [u8; 35] = [
+    31, 0, 0, 0, 0, 1, 0, 4, 0, 0, 0, 9, 19, 0, 0, 0, 85, 110, 115, 117, 112, 112, 111, 114, 116,
+    101, 100, 32, 118, 101, 114, 115, 105, 111, 110,
+];
+
+/// After a refused hello nothing is read, whatever follows it; a length out of range ends the session at its place.
 #[test]
 fn sessions_end_at_the_first_fault(rt: HostRuntime) -> Result<(), Fail> {
     let mut bytes = HELLO_AND_PUT;
@@ -76,102 +123,28 @@ fn sessions_end_at_the_first_fault(rt: HostRuntime) -> Result<(), Fail> {
         patch: 0,
     };
     let refused = SessionEnd::HelloRefused(HelloFault::Version(version));
-    assert_eq!(rt; end_over(rt.alloc(), &bytes)?, refused);
+    let ended = ends_so(rt.alloc(), &bytes, 41, 41, &REFUSED)?;
+    assert_eq!(rt; ended, (refused, true));
     bytes[7] = 0;
     bytes[12] = 9;
     let bad = SessionEnd::BadFrame {
         place: 12,
         length: 9,
     };
-    assert_eq!(rt; end_over(rt.alloc(), &bytes)?, bad);
-    Ok(())
-}
-
-/// Takes all that waits, by at most `step` bytes at once, and adds it to the output. Answers whether no
-/// more than 65,536 bytes were shown at once.
-fn write_out(session: &mut Session, step: usize, output: &mut Octets) -> Result<bool, NoMemory> {
-    for _ in 0..10_000_000 {
-        let waiting = session.waiting();
-        if waiting.is_empty() {
-            return Ok(true);
-        }
-        if waiting.len() > 65_536 {
-            return Ok(false);
-        }
-        let count = if step < waiting.len() {
-            step
-        } else {
-            waiting.len()
-        };
-        output.append(&waiting[..count])?;
-        session.gone(count);
-    }
-    Ok(false)
-}
-
-/// The bytes of a session over this input, which is fed in pieces of `step` bytes, and its end. `None`
-/// where it shows too much.
-fn output_of(
-    alloc: Global,
-    input: &[u8],
-    step: usize,
-) -> Result<Option<(Octets, SessionEnd)>, Fail> {
-    let mut caches = caches(alloc)?;
-    let mut session = Session::new(alloc, CFG)?;
-    let mut output = Octets::empty(alloc);
-    let mut taken = 0;
-    for _ in 0..10_000_000 {
-        match session.next_request()? {
-            Step::Stop(end) => return Ok(Some((output, end))),
-            Step::Run(call) => session.answer(caches.run(call))?,
-            Step::Out => {
-                if !write_out(&mut session, step, &mut output)? {
-                    return Ok(None);
-                }
-            }
-            Step::More { .. } => {
-                let rest = &input[taken..];
-                if rest.is_empty() {
-                    return Ok(Some((output, session.end_input())));
-                }
-                let count = if step < rest.len() { step } else { rest.len() };
-                session.feed(&rest[..count])?;
-                taken += count;
-            }
-        }
-    }
-    Ok(None)
-}
-
-/// What the session with a scan answers.
-const SCANNED: [u8; 86] = [
-    1, 0, 0, 0, 1, 12, 0, 0, 0, 1, 0, 0, 0, 0, 0, 0, 0, 0, 0, 0, 0, 12, 0, 0, 0, 2, 0, 0, 0, 0, 0,
-    0, 0, 0, 0, 0, 0, 45, 0, 0, 0, 3, 0, 0, 0, 0, 0, 0, 0, 0, 0, 0, 0, 1, 0, 0, 0, 0, 0, 0, 0, 2,
-    0, 0, 0, 3, 1, 0, 0, 0, 3, 2, 0, 0, 0, 3, 3, 0, 0, 0, 3, 4, 0, 0, 0, 0,
-];
-
-#[test]
-fn pieces_of_any_length_give_the_same_output(rt: HostRuntime) -> Result<(), Fail> {
-    for step in [1, 2, 3, 5, 7, 11, 40, 98, 99] {
-        let Some((output, end)) = output_of(rt.alloc(), &TWO_PUTS_AND_SCAN, step)? else {
-            assert!(rt; false);
-            return Ok(());
-        };
-        assert!(rt; output.as_slice() == &SCANNED[..]);
-        assert_eq!(rt; end, SessionEnd::Ended);
-    }
+    let ended = ends_so(rt.alloc(), &bytes, 41, 41, &SCANNED[..5])?;
+    assert_eq!(rt; ended, (bad, true));
     Ok(())
 }
 
 /// A link that gives the second half of its input only after the replies to the first half were written.
-fn waiting_link(alloc: Global) -> Result<MemLink, Fail> {
+fn waiting_link(alloc: Global) -> Result<MemLink, NoMemory> {
     let mut reads = Vec::new(alloc);
     let first = Vec::from_slice(alloc, &TWO_PUTS_AND_SCAN[..41])?;
     reads.push(ReadStep::Bytes(Octets::new(first)))?;
     reads.push(ReadStep::AfterWritten(21))?;
     let second = Vec::from_slice(alloc, &TWO_PUTS_AND_SCAN[41..])?;
     reads.push(ReadStep::Bytes(Octets::new(second)))?;
-    Ok(MemLink::new(alloc, reads, Vec::new(alloc), 1 << 10)?)
+    MemLink::new(alloc, reads, Vec::new(alloc), 1 << 10)
 }
 
 #[test]
@@ -180,196 +153,202 @@ fn whole_frames_are_answered_before_the_next_read(rt: HostRuntime) -> Result<(),
     let mut caller = Alone::new(caches(rt.alloc())?);
     let end = serve_link(rt.alloc(), &mut caller, &mut link, &CFG);
     assert_eq!(rt; end, SessionEnd::Ended);
-    assert!(rt; link.written() == Some(SCANNED.as_slice()));
+    assert!(rt; link.written() == Some(&SCANNED[..]));
     Ok(())
 }
 
-/// After a refused hello nothing is read, whatever follows it.
-#[test]
-fn nothing_is_asked_after_a_refused_hello(rt: HostRuntime) -> Result<(), Fail> {
-    let mut bytes = HELLO_AND_PUT;
-    bytes[7] = 7;
-    let Some((output, end)) = output_of(rt.alloc(), &bytes, 41)? else {
-        assert!(rt; false);
-        return Ok(());
-    };
-    assert_eq!(rt; output.len(), 35);
-    assert!(rt; matches!(end, SessionEnd::HelloRefused(_)));
-    Ok(())
+// ---- sessions step by step
+
+/// Takes away all that waits, and adds it to the output. Returns in how many pieces it is shown.
+fn write(session: &mut Session, output: &mut Octets) -> Result<u32, NoMemory>
+    ensures out { session.new.out ≡ session.old.out }
+{
+    'pieces: for piece in 0..1_000 {
+        let waiting = session.waiting();
+        if waiting.is_empty() {
+            return Ok(piece);
+        }
+        let count = waiting.len();
+        output.append(waiting)?;
+        session.gone(count);
+    }
+    Ok(1_000)
 }
 
-/// A text of this many letters as a value, put under int 1 and asked for.
-fn long_input(alloc: Global, letters: usize) -> Result<Octets, Fail> {
-    let text = vec![in alloc; b'a'; letters]?;
+/// Does what comes next in a session: a call is run, or there is no memory for it; and what waits then is
+/// written. Returns in how many pieces it is shown.
+fn go_on(
+    session: &mut Session,
+    caches: &mut Caches,
+    lacks: bool,
+    output: &mut Octets,
+) -> Result<u32, NoMemory>
+    requires { session.old.out ≡ [] }
+    ensures { IfOk result (λ pieces. session.new.out ≡ []) }
+{
+    match session.next_request()? {
+        Step::Run(call) => {
+            let got = if lacks {
+                Err(NoRoom { back: call })
+            } else {
+                caches.run(call)
+            };
+            session.answer(got)?;
+            write(session, output)
+        }
+        Step::Out => write(session, output),
+        Step::More { .. } => Ok(0),
+        Step::Stop(_) => Ok(0),
+    }
+}
+
+/// The letters of a long text.
+const LETTERS: u32 = 200_000;
+
+/// A hello, a put of a long text under int 1, and a get of it.
+fn long_input(alloc: Global) -> Result<Octets, NoMemory> {
+    let text = vec![in alloc; b'a'; LETTERS as usize]?;
     let mut input = Octets::empty(alloc);
     input.append(&HELLO_AND_PUT[..12])?;
-    input.append(&(letters as u32 + 25).to_le_bytes())?;
+    input.append(&(LETTERS + 25).to_le_bytes())?;
     input.append(&HELLO_AND_PUT[16..36])?;
     input.push(9)?;
-    input.append(&(letters as u32).to_le_bytes())?;
+    input.append(&LETTERS.to_le_bytes())?;
     input.append(text.as_slice())?;
     input.append(&[20, 0, 0, 0, 0xE8, 3])?;
     input.append(&HELLO_AND_PUT[18..36])?;
     Ok(input)
 }
 
-/// In how many pieces the session shows what waits, and how many bytes.
-fn shown(session: &mut Session) -> (usize, usize) {
-    let mut times = 0;
-    let mut bytes = 0;
-    for _ in 0..1_000 {
-        let count = session.waiting().len();
-        if count == 0 {
-            return (times, bytes);
-        }
-        session.gone(count);
-        times += 1;
-        bytes += count;
-    }
-    (times, bytes)
-}
-
-/// A reply of 200,021 bytes is shown in four pieces.
-#[test]
-fn a_long_reply_is_shown_in_pieces(rt: HostRuntime) -> Result<(), Fail> {
-    let input = long_input(rt.alloc(), 200_000)?;
-    let mut caches = caches(rt.alloc())?;
-    let mut session = Session::new(rt.alloc(), CFG)?;
-    let mut all = input.as_slice();
-    let mut replies = Octets::empty(rt.alloc());
-    for _ in 0..100_000 {
-        match session.next_request()? {
-            Step::Run(call) => {
-                session.answer(caches.run(call))?;
-                let (times, bytes) = shown(&mut session);
-                replies.push(if times == 4 { 4 } else { 1 })?;
-                assert!(rt; times == 1 || bytes == 200_021);
-            }
-            Step::Out => {
-                let count = session.waiting().len();
-                session.gone(count);
-            }
-            Step::More { .. } => {
-                if all.is_empty() {
-                    break;
-                }
-                let count = if all.len() < 65_536 {
-                    all.len()
-                } else {
-                    65_536
-                };
-                session.feed(&all[..count])?;
-                all = &all[count..];
-            }
-            Step::Stop(_) => break,
-        }
-    }
-    assert!(rt; replies.as_slice() == &[1u8, 4][..]);
-    assert_eq!(rt; session.held(), 0);
-    Ok(())
-}
-
-/// What `ahead` answers, as a word.
-fn word(step: &Ahead) -> &'static str {
-    match step {
-        Ahead::More { .. } => "more",
-        Ahead::Run { nth: 0, .. } => "run 0",
-        Ahead::Run { nth: 1, .. } => "run 1",
-        Ahead::Run { .. } => "run 2",
-        Ahead::Wait => "wait",
-        Ahead::Out => "out",
-        Ahead::Stop(_) => "stop",
-    }
-}
-
-/// A session whose calls are answered in another order than they were handed out in: what is done, and
-/// what `ahead` answers then.
-static IN_ANY_ORDER: [(&str, &str); 13] = [
-    ("", "out"),
-    ("write", "run 0"),
-    ("", "run 1"),
-    // The scan waits for the answers to both puts.
-    ("", "wait"),
-    ("answer 1", "out"),
-    ("write", "wait"),
-    ("answer 0", "out"),
-    ("write", "run 2"),
-    ("", "wait"),
-    ("answer 2", "out"),
-    ("write", "more"),
-    ("", "more"),
-    ("", "more"),
-];
-
-/// The answer to a call that is out by its number: the rows of the scan, or done.
-fn done(alloc: Global, nth: u64) -> Result<Answer, Fail> {
-    if nth < 2 {
-        return Ok(Answer {
-            minor: 0,
-            outcome: Outcome::Done,
-        });
+/// In how many pieces each reply of a session over this input is shown, and how many bytes they are in all.
+fn pieces_over(
+    alloc: Global,
+    input: &[u8],
+    lacks: bool,
+) -> Result<Option<((u32, u32, u32), usize)>, Fail> {
+    if input.len() > 1_000_000 {
+        return Ok(None);
     }
     let mut caches = caches(alloc)?;
-    Ok(
-        caches
-            .run(Call::Scan { cache: 3_343_801 })
-            .ok()
-            .unwrap_or(Answer {
-                minor: 0,
-                outcome: Outcome::Done,
-            }),
-    )
-}
-
-/// The first step that `ahead` answers otherwise, and what was written.
-fn wrong_step(alloc: Global) -> Result<(Option<usize>, Octets), Fail> {
-    let mut session = Session::new(alloc, CFG)?;
     let mut output = Octets::empty(alloc);
-    session.feed(&TWO_PUTS_AND_SCAN)?;
-    for (at, (act, wanted)) in IN_ANY_ORDER.iter().enumerate() {
-        match *act {
-            "write" => {
-                write_out(&mut session, 65_536, &mut output)?;
-            }
-            "answer 0" => session.answer_nth(0, Ok(done(alloc, 0)?))?,
-            "answer 1" => session.answer_nth(1, Ok(done(alloc, 1)?))?,
-            "answer 2" => session.answer_nth(2, Ok(done(alloc, 2)?))?,
-            _ => {}
-        }
-        if word(&session.ahead(4)?) != *wanted {
-            return Ok((Some(at), output));
-        }
-    }
-    Ok((None, output))
+    let mut session = Session::new(alloc, CFG)?;
+    session.feed(input)?;
+    let hello = go_on(&mut session, &mut caches, lacks, &mut output)?;
+    let put = go_on(&mut session, &mut caches, lacks, &mut output)?;
+    let get = go_on(&mut session, &mut caches, lacks, &mut output)?;
+    Ok(Some(((hello, put, get), output.len())))
 }
 
 #[test]
-fn replies_stand_in_the_order_of_answers(rt: HostRuntime) -> Result<(), Fail> {
-    let (wrong, output) = wrong_step(rt.alloc())?;
-    assert_eq!(rt; wrong, None);
-    // The identifiers of the replies to the puts, and of the page.
-    assert_eq!(rt; output.len(), 5 + 16 + 16 + 29);
-    assert!(rt;
-        output.as_slice()[9] == 2 && output.as_slice()[25] == 1 && output.as_slice()[41] == 3
-    );
+fn long_replies_are_shown_in_pieces(rt: HostRuntime) -> Result<(), Fail> {
+    let input = long_input(rt.alloc())?;
+    let pieces = pieces_over(rt.alloc(), input.as_slice(), false)?;
+    assert_eq!(rt; pieces, Some(((1, 1, 4), 5 + 16 + 200_021)));
     Ok(())
 }
 
 /// Where the caller had no memory for a call, the reply says so.
 #[test]
 fn a_call_without_memory_is_replied(rt: HostRuntime) -> Result<(), Fail> {
-    let mut session = Session::new(rt.alloc(), CFG)?;
-    session.feed(&HELLO_AND_PUT)?;
-    let mut output = Octets::empty(rt.alloc());
-    for _ in 0..4 {
-        match session.next_request()? {
-            Step::Run(call) => session.answer(Err(NoRoom { back: call }))?,
-            _ => {
-                write_out(&mut session, 3, &mut output)?;
-            }
-        }
+    let pieces = pieces_over(rt.alloc(), &HELLO_AND_PUT, true)?;
+    assert_eq!(rt; pieces, Some(((1, 1, 0), 5 + 30)));
+    Ok(())
+}
+
+// ---- calls that are answered in any order
+
+/// Whether the next call is handed out, under this number.
+fn hands_out(session: &mut Session, nth: u64) -> Result<bool, NoMemory>
+    ensures is_out { IfOk result (λ yes. yes ≡ true → IsSome (awaited_at session.new.out nth)) }
+    ensures others { (n : ℕ) → IsSome (awaited_at session.old.out n)
+        → IsSome (awaited_at session.new.out n) }
+{
+    match session.ahead(4)? {
+        Ahead::Run { nth: next, .. } => Ok(next == nth),
+        _ => Ok(false),
     }
-    assert_eq!(rt; output.len(), 5 + 30);
-    assert!(rt; output.as_slice()[17] == 0x28 && output.as_slice()[18] == 0x23);
+}
+
+/// Whether `ahead` answers so: 'w' for `Wait`, 'o' for `Out`, 'm' for `More`.
+fn answers(session: &mut Session, word: u8) -> Result<bool, NoMemory>
+    ensures others { (n : ℕ) → IsSome (awaited_at session.old.out n)
+        → IsSome (awaited_at session.new.out n) }
+{
+    match session.ahead(4)? {
+        Ahead::Wait => Ok(word == b'w'),
+        Ahead::Out => Ok(word == b'o'),
+        Ahead::More { .. } => Ok(word == b'm'),
+        _ => Ok(false),
+    }
+}
+
+/// Gives the answer to a call that is out, and writes the reply.
+fn answer(
+    session: &mut Session,
+    nth: u64,
+    outcome: Outcome,
+    output: &mut Octets,
+) -> Result<(), NoMemory>
+    requires { IsSome (awaited_at session.old.out nth) }
+    ensures others { (n : ℕ) → n ≢ nth → IsSome (awaited_at session.old.out n)
+        → IsSome (awaited_at session.new.out n) }
+{
+    session.answer_nth(nth, Ok(Answer { minor: 0, outcome }))?;
+    write(session, output)?;
+    Ok(())
+}
+
+/// What a session writes whose second call is answered first. `None` where a step is another one.
+fn in_any_order(alloc: Global) -> Result<Option<Octets>, NoMemory> {
+    let mut session = Session::new(alloc, CFG)?;
+    let mut output = Octets::empty(alloc);
+    session.feed(&TWO_PUTS_AND_SCAN)?;
+    if !answers(&mut session, b'o')? {
+        return Ok(None);
+    }
+    write(&mut session, &mut output)?;
+    if !hands_out(&mut session, 0)? {
+        return Ok(None);
+    }
+    if !hands_out(&mut session, 1)? {
+        return Ok(None);
+    }
+    // The scan waits for the answers to both puts.
+    if !answers(&mut session, b'w')? {
+        return Ok(None);
+    }
+    answer(&mut session, 1, Outcome::Done, &mut output)?;
+    if !answers(&mut session, b'w')? {
+        return Ok(None);
+    }
+    answer(&mut session, 0, Outcome::Done, &mut output)?;
+    if !hands_out(&mut session, 2)? {
+        return Ok(None);
+    }
+    if !answers(&mut session, b'w')? {
+        return Ok(None);
+    }
+    let rows = Outcome::Pairs(Items::new(Vec::new(alloc)));
+    answer(&mut session, 2, rows, &mut output)?;
+    if !answers(&mut session, b'm')? {
+        return Ok(None);
+    }
+    Ok(Some(output))
+}
+
+/// The replies to the puts of that session in the order of their answers, and an empty page.
+const IN_ANY_ORDER: [u8; 66] = [
+    1, 0, 0, 0, 1, 12, 0, 0, 0, 2, 0, 0, 0, 0, 0, 0, 0, 0, 0, 0, 0, 12, 0, 0, 0, 1, 0, 0, 0, 0, 0,
+    0, 0, 0, 0, 0, 0, 25, 0, 0, 0, 3, 0, 0, 0, 0, 0, 0, 0, 0, 0, 0, 0, 1, 0, 0, 0, 0, 0, 0, 0, 0,
+    0, 0, 0, 0,
+];
+
+#[test]
+fn replies_stand_in_the_order_of_answers(rt: HostRuntime) -> Result<(), Fail> {
+    let Some(output) = in_any_order(rt.alloc())? else {
+        assert!(rt; false);
+        return Ok(());
+    };
+    assert_eq!(rt; output.as_slice(), &IN_ANY_ORDER[..]);
     Ok(())
 }

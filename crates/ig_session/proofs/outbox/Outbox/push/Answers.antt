@@ -1,4 +1,4 @@
-use Rattle.ig_session.proofs.OutboxLemmas.{pushed_ok, pushed_err, pushed_keeps}
+use Rattle.ig_session.proofs.OutboxLemmas.{none_alone, pushed_ok, pushed_err, pushed_keeps}
 use Rattle.ig_session.proofs.outbox.Outbox.push.Goals as goal
 
 pub push-requires : goal.push-requires
@@ -12,3 +12,6 @@ returns-clause-ok c = pushed_ok c.self.inside.hello c.self.inside.gone c.self.in
 
 pub returns-clause-err : goal.returns-clause-err
 returns-clause-err c = pushed_err c.self.inside.hello c.self.inside.gone c.self.inside.replies c.args.self.now c.self.view_is c.push.result c.push.new.self c.push.ensures.err
+
+pub returns-clause-first : goal.returns-clause-first
+returns-clause-first c = λ none. c.push.ensures.first (none_alone c.self.inside.hello c.self.inside.gone c.self.inside.replies c.args.self.now c.self.view_is none)

@@ -1,7 +1,5 @@
-use Rattle.std.proofs.Common.{refl, inl}
 use Rattle.ig_session.specs.Requests.{coming_said}
 use Rattle.ig_session.proofs.HeldUpLemmas.{full_answer, waits_runnable, awaits_all, steps_on, goes_on_as}
-use Rattle.ig_session.proofs.ReplyLemmas.{on_err}
 use Rattle.ig_session.proofs.session.Session.ahead.Goals as goal
 
 pub returns-then-must_wait_for_one-clause-ok : goal.returns-then-must_wait_for_one-clause-ok
@@ -10,9 +8,6 @@ returns-then-must_wait_for_one-clause-ok c =
 
 pub returns-then-must_wait_for_one-clause-runnable : goal.returns-then-must_wait_for_one-clause-runnable
 returns-then-must_wait_for_one-clause-runnable c = waits_runnable c.args.self.now.phase c.stop_or_wait.result c.stop_or_wait.ensures
-
-pub returns-in_err-next-clause-err : goal.returns-in_err-next-clause-err
-returns-in_err-next-clause-err c = on_err c.from_residual.result (record { none_waits = c.in_err-next.ensures.lack; left = inl refl })
 
 pub returns-then-must_wait_for_all-clause-ok : goal.returns-then-must_wait_for_all-clause-ok
 returns-then-must_wait_for_all-clause-ok c =

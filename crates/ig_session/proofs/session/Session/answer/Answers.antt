@@ -1,4 +1,5 @@
 use Rattle.ig_session.specs.Steps.{given}
+use Rattle.ig_session.proofs.HeldLemmas.{alone_held}
 use Rattle.ig_session.proofs.ReplyLemmas.{only_answered, only_spent, only_draws, only_sound}
 use Rattle.ig_session.proofs.session.Session.answer.Goals as goal
 
@@ -13,3 +14,6 @@ returns-in-Some-clause-ok c = only_answered _ _ c.self.view_is c.settle.result c
 
 pub returns-in-Some-clause-err : goal.returns-in-Some-clause-err
 returns-in-Some-clause-err c = only_spent _ _ c.self.view_is c.settle.result c.settle.new.self c.in-Some.awaited c.pop.new.self.items c.in-Some.ensures.items c.requires c.settle.ensures.err
+
+pub returns-in-Some-clause-free : goal.returns-in-Some-clause-free
+returns-in-Some-clause-free c = λ none lacks. c.settle.ensures.free (alone_held _ _ c.self.view_is none) lacks

@@ -4,6 +4,7 @@ use Rattle.ig_session.specs.declared.awaited.Awaited.{Awaited}
 use Rattle.ig_session.specs.Awaiting.{place_of_nth}
 use Rattle.ig_session.specs.Steps.{given}
 use Rattle.ig_session.proofs.NthLemmas.{IsPlaceOf, nth_place}
+use Rattle.ig_session.proofs.HeldLemmas.{alone_held}
 use Rattle.ig_session.proofs.ReplyLemmas.{nth_sound, nth_draws, nth_settled, nth_spent, nth_absent}
 use Rattle.ig_session.proofs.session.Session.answer_nth.Goals as goal
 
@@ -49,3 +50,6 @@ returns-in-Some-clause-err c =
 pub returns-in-None-clause-ok : goal.returns-in-None-clause-ok
 returns-in-None-clause-ok c =
     nth_absent _ _ c.self.view_is c.args.nth (ap (λ (l : List Awaited). place_of_nth l c.args.nth) (sym c.deref.ensures.value) ∙ sym c.index_of.ensures ∙ c.in-None.is) c.requires
+
+pub returns-in-Some-clause-free : goal.returns-in-Some-clause-free
+returns-in-Some-clause-free c = λ none lacks. c.settle.ensures.free (alone_held _ _ c.self.view_is none) lacks

@@ -29,6 +29,9 @@ returns-in-Err-clause-ok c =
     (subst (λ (i : ℤ). IsTurned (terms_of c.in-Open.terms) (no_memory (terms_of c.in-Open.terms) c.args.self.now.desk i) c.lacks_memory-frame.result c.args.self.now.desk) id (c.lacks_memory-frame.ensures c.args.self.now.desk)))
     c.show.ensures.ok)
 
+pub returns-in-Err-clause-free : goal.returns-in-Err-clause-free
+returns-in-Err-clause-free c = λ none lacks. c.show.ensures.first none
+
 pub reply_to-requires-clause-right : goal.reply_to-requires-clause-right
 reply_to-requires-clause-right c = (terms_sound _ c.self.inside.phase c.in-Open.terms refl c.in-Open.is c.self.invariant).0
 
@@ -57,3 +60,9 @@ returns-in-Err-reply_to-clause-ok c = never_on _ c.run_out.result c.run_out.ensu
 
 pub returns-in-Err-reply_to-clause-err : goal.returns-in-Err-reply_to-clause-err
 returns-in-Err-reply_to-clause-err c = spent_now _ _ c.self.view_is c.run_out.result c.run_out.new.self c.reply_to.new.desk (on_err c.run_out.result c.run_out.ensures.spent)
+
+pub returns-in-Ok-reply_to-clause-free : goal.returns-in-Ok-reply_to-clause-free
+returns-in-Ok-reply_to-clause-free c = λ none lacks. let never : Had c.in-Ok.given ≡ NoMemory = sym (ap given c.in-Ok.is) ∙ lacks in absurd cc
+
+pub returns-in-Err-reply_to-clause-free : goal.returns-in-Err-reply_to-clause-free
+returns-in-Err-reply_to-clause-free c = λ none lacks. let never : Had c.in-Ok.given ≡ NoMemory = sym (ap given c.in-Ok.is) ∙ lacks in absurd cc

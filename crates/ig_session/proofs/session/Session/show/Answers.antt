@@ -1,4 +1,4 @@
-use Rattle.ig_session.proofs.HeldLemmas.{shown_is, shown_keeps, same_is, same_keeps}
+use Rattle.ig_session.proofs.HeldLemmas.{shown_is, shown_keeps, alone_held, same_is, same_keeps}
 use Rattle.ig_session.proofs.session.Session.show.Goals as goal
 
 pub invariant_of-self : goal.invariant_of-self
@@ -9,3 +9,6 @@ returns-in-Ok-clause-ok c = shown_is _ _ c.self.view_is c.args.frame.frame c.pus
 
 pub invariant_of-self-in-Err : goal.invariant_of-self-in-Err
 invariant_of-self-in-Err c = same_keeps _ _ c.self.view_is c.push.new.self c.in-Err.ensures.err c.self.invariant
+
+pub returns-in-Err-clause-first : goal.returns-in-Err-clause-first
+returns-in-Err-clause-first c = λ none. let never = c.in-Err.ensures.first (alone_held _ _ c.self.view_is none) in absurd cc
