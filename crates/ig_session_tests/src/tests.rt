@@ -74,8 +74,8 @@ fn ends_so(
     Ok((end, link.written() == Some(written)))
 }
 
-/// How the session with a scan ends where its input is cut off at a length, and how many bytes of its output
-/// are written then.
+/// How the session with a scan ends where its input is cut off at a length, and how many bytes of its
+/// output are written then.
 static ENDS: [(usize, SessionEnd, usize); 8] = [
     (0, SessionEnd::Truncated { missing: 4 }, 0),
     (5, SessionEnd::Truncated { missing: 7 }, 0),
@@ -108,11 +108,12 @@ fn pieces_of_any_length_give_the_same_output(rt: HostRuntime) -> Result<(), Fail
 
 /// The reply to a hello of version 1.7.0.
 const REFUSED: [u8; 35] = [
-    31, 0, 0, 0, 0, 1, 0, 4, 0, 0, 0, 9, 19, 0, 0, 0, 85, 110, 115, 117, 112, 112, 111, 114, 116,
+    31, 0, 0, 0, 0, 1, 0, 4, 0, 0, 0, 9, 19, 0, 0, 0, 117, 110, 115, 117, 112, 112, 111, 114, 116,
     101, 100, 32, 118, 101, 114, 115, 105, 111, 110,
 ];
 
-/// After a refused hello nothing is read, whatever follows it; a length out of range ends the session at its place.
+/// After a refused hello nothing is read, whatever follows it. A length out of range ends the session at
+/// its place.
 #[test]
 fn sessions_end_at_the_first_fault(rt: HostRuntime) -> Result<(), Fail> {
     let mut bytes = HELLO_AND_PUT;
@@ -175,7 +176,7 @@ fn write(session: &mut Session, output: &mut Octets) -> Result<u32, NoMemory>
     Ok(1_000)
 }
 
-/// Does what comes next in a session: a call is run, or there is no memory for it; and what waits then is
+/// Does what comes next in a session: a call is run, or there is no memory for it; then what waits is
 /// written. Returns in how many pieces it is shown.
 fn go_on(
     session: &mut Session,
