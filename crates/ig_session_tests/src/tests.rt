@@ -1,4 +1,4 @@
-ghost use Rattle.std.specs.Prelude.{◌≡◌, ◌≢◌, ◌<◌, ℕ, true, [], IfOk, IsSome};
+ghost use Rattle.std.specs.Prelude.{◌≡◌, ◌≢◌, ◌<◌, ℕ, true, [], IfOk, IfSome, IsSome};
 ghost use Rattle.ig_session.specs.Awaiting.{awaited_at};
 
 use ig_base::{Items, NoMemory, NoRoom, Octets, Text};
@@ -221,23 +221,46 @@ fn long_input(alloc: Global) -> Result<Octets, NoMemory> {
     Ok(input)
 }
 
-/// In how many pieces each reply of a session over this input is shown, and how many bytes they are in all.
+/// A session that was fed this input. `None` where it is long.
+fn session_with(alloc: Global, input: &[u8]) -> Result<Option<Session>, NoMemory>
+    ensures { IfOk result (λ made. IfSome made (λ session. session.out ≡ [])) }
+{
+    if input.len() > 1_000_000 {
+        return Ok(None);
+    }
+    let mut session = Session::new(alloc, CFG)?;
+    session.feed(input)?;
+    Ok(Some(session))
+}
+
+/// In how many pieces each of the first three replies of a session is shown.
+fn pieces_of(
+    session: &mut Session,
+    caches: &mut Caches,
+    lacks: bool,
+    output: &mut Octets,
+) -> Result<(u32, u32, u32), NoMemory>
+    requires { session.old.out ≡ [] }
+{
+    let hello = go_on(session, caches, lacks, output)?;
+    let put = go_on(session, caches, lacks, output)?;
+    let get = go_on(session, caches, lacks, output)?;
+    Ok((hello, put, get))
+}
+
+/// The same of a session over this input, and how many bytes it writes in all.
 fn pieces_over(
     alloc: Global,
     input: &[u8],
     lacks: bool,
 ) -> Result<Option<((u32, u32, u32), usize)>, Fail> {
-    if input.len() > 1_000_000 {
+    let Some(mut session) = session_with(alloc, input)? else {
         return Ok(None);
-    }
+    };
     let mut caches = caches(alloc)?;
     let mut output = Octets::empty(alloc);
-    let mut session = Session::new(alloc, CFG)?;
-    session.feed(input)?;
-    let hello = go_on(&mut session, &mut caches, lacks, &mut output)?;
-    let put = go_on(&mut session, &mut caches, lacks, &mut output)?;
-    let get = go_on(&mut session, &mut caches, lacks, &mut output)?;
-    Ok(Some(((hello, put, get), output.len())))
+    let pieces = pieces_of(&mut session, &mut caches, lacks, &mut output)?;
+    Ok(Some((pieces, output.len())))
 }
 
 #[test]
