@@ -623,12 +623,12 @@ fn due(alloc: Global, taken: usize) -> Result<(usize, bool), NoMemory> {
     let mut came = 0;
     let mut due = 0;
     for (request, reply) in &CUT {
-        let whole = came + bytes(alloc, request)?.len();
+        let whole = came.saturating_add(bytes(alloc, request)?.len());
         if taken < whole {
             return Ok((due, taken == came && came > 0));
         }
         came = whole;
-        due += bytes(alloc, reply)?.len();
+        due = due.saturating_add(bytes(alloc, reply)?.len());
     }
     Ok((due, taken == came))
 }
