@@ -620,8 +620,8 @@ fn a_partition_map_lists_each_partition(rt: HostRuntime) -> Result<(), Fail> {
 /// How many bytes of the replies are due once this many bytes of that session came, and whether these
 /// are whole frames of it, from the hello on.
 fn due(alloc: Global, taken: usize) -> Result<(usize, bool), NoMemory> {
-    let mut came = 0;
-    let mut due = 0;
+    let mut came: usize = 0;
+    let mut due: usize = 0;
     for (request, reply) in &CUT {
         let whole = came.saturating_add(bytes(alloc, request)?.len());
         if taken < whole {
