@@ -1,0 +1,177 @@
+-- Shards together: calls that need all of them.
+use Rattle.std.proofs.Common.{◌≡◌, ◌≢◌, ◌<◌, ◌+◌, ◌++◌, ℕ, suc, ℤ, pos, Bool, true, false, nat_le, cond, List, [], ◌∷◌, length, map, All, Option, None, Some, refl, sym, ap, ap₂, ◌∙◌, subst, inl, inr, arith}
+use Rattle.std.proofs.lemmas.Bool.{cases_Bool, cond-true, cond-false}
+use Rattle.std.proofs.lemmas.List.Elements.{All-nil, All-cons, All-head, All-tail}
+use Rattle.std.specs.Ordering.{int_eq}
+use Rattle.std.specs.Option.{option_map_or}
+use Rattle.std.specs.FinMap as finite
+use Rattle.ig_types.specs.Join.{same_name}
+use Rattle.ig_caches.specs.declared.answer.Outcome.{Outcome}
+use Rattle.ig_caches.specs.declared.answer.Outcome.TheVariants.{Done, Refused}
+use Rattle.ig_caches.specs.declared.answer.Why.TheVariants as why
+use Rattle.ig_caches.specs.Rows.{Rows}
+use Rattle.ig_caches.specs.RowsAt.{rows_at, with_rows_of}
+use Rattle.ig_caches.specs.PlainCaches.{Cache, PlainCaches, has_id, id_of, fresh_cache, fresh_caches, cache_of, caches_with_rows, caches_without}
+use Rattle.ig_caches.specs.Effect.{created, changed_to, next_count, max_caches, after_destroy}
+use Rattle.ig_caches.proofs.KeyLemmas.{with_twice}
+use Rattle.ig_caches.proofs.CacheLemmas.{with_own}
+use Rattle.ig_shards.specs.Spread.{either, union, IsPlaced, AreSpreadFrom}
+use Rattle.ig_shards.specs.Parts.{Part, beside, both, together, heads, AreAlike, IsPart, AreNumbered, AllAlike, AreAll}
+use Rattle.ig_shards.specs.RowsOfParts.{rows_in_parts, with_rows_in_parts}
+use Rattle.ig_shards.proofs.SpreadLemmas.{either_none, placed_none}
+use Rattle.ig_shards.proofs.BesideLemmas.{head, same_first, same_rest, beside_none, beside_heads, IsInBoth, found_in_both, rows_in_both, all_found, all_with_rows, heads_with_rows}
+use Rattle.ig_shards.proofs.PartLemmas.{both_none, heads_together}
+
+some_cache : Cache → Option Cache → Cache
+some_cache d None = d
+some_cache d (Some cache) = cache
+
+same_some : (a b : Cache) → Some a ≡ Some b → a ≡ b
+unfolding some_cache
+same_some a b e = ap (some_cache a) e
+
+-- ---- the rows of one cache in all shards
+rows_found : (caches : List Cache) (id : ℤ) (cache : Cache) → cache_of caches id ≡ Some cache → rows_at caches id finite.empty ≡ cache.rows
+rows_found caches id cache is = ap (λ (o : Option Cache). option_map_or (λ (k : Cache). k.rows) o finite.empty) is
+
+-- the cache that all shards have, with the rows of all
+pub found_together : (c : PlainCaches) (first : Part) (parts : List Part) (id : ℤ) (cache : Cache) → AllAlike c (first ∷ parts) → cache_of first.caches.caches id ≡ Some cache
+    → cache_of (together (first ∷ parts)).caches id ≡ Some (record cache { rows = union (rows_in_parts (first ∷ parts) id) })
+found_together c first [] id cache all is =
+    ap (λ (cs : List Cache). cache_of cs id) (beside_none first.caches.caches) ∙ is
+    ∙ ap (λ (r : Rows). Some (record cache { rows = r })) (sym (either_none (rows_at first.caches.caches id finite.empty) ∙ rows_found first.caches.caches id cache is))
+found_together c first (next ∷ parts) id cache all is =
+    let P : Part → Type 0 = λ p. AreAlike c p.caches in
+    let rest : PlainCaches = together (next ∷ parts) in
+    let others : AllAlike c (next ∷ parts) = All-tail P first (next ∷ parts) all in
+    let here : heads first.caches ≡ heads c = sym (All-head P first (next ∷ parts) all).names in
+    let in_next : IsInBoth first.caches.caches next.caches.caches id cache =
+    found_in_both first.caches.caches next.caches.caches id cache (here ∙ (All-head P next parts others).names) is in
+    let in_rest : IsInBoth first.caches.caches rest.caches id cache =
+    found_in_both first.caches.caches rest.caches id cache (here ∙ heads_together c [] parts next others) is in
+    let later : cache_of rest.caches id ≡ Some (record in_next.other { rows = union (rows_in_parts (next ∷ parts) id) }) =
+    found_together c next parts id in_next.other others in_next.stands in
+    let rows : in_rest.other.rows ≡ union (rows_in_parts (next ∷ parts) id) =
+    ap (λ (k : Cache). k.rows) (same_some in_rest.other (record in_next.other { rows = union (rows_in_parts (next ∷ parts) id) }) (sym in_rest.stands ∙ later)) in
+    in_rest.whole
+    ∙ ap (λ (r : Rows). Some (record cache { rows = r })) (ap₂ either (sym (rows_found first.caches.caches id cache is)) rows)
+
+-- without it in the first shard there is none
+pub missing_together : (first : Part) (parts : List Part) (id : ℤ) → cache_of first.caches.caches id ≡ None → cache_of (together (first ∷ parts)).caches id ≡ None
+missing_together first parts id none = missing first.caches.caches (together parts).caches none
+  where
+    missing : (caches others : List Cache) → cache_of caches id ≡ None → cache_of (beside caches others) id ≡ None
+    missing [] others none = refl
+    missing (a ∷ caches) [] none = none
+    missing (a ∷ caches) (b ∷ others) none = elim (cases_Bool (has_id id a)) [
+      | inl here ↦ let never : Some a ≡ None = sym (cond-true (has_id id a) _ _ here) ∙ none in absurd (cc)
+      | inr later ↦ cond-false (has_id id a) _ _ later ∙ missing caches others (sym (cond-false (has_id id a) _ _ later) ∙ none)
+    ]
+
+-- other rows in each shard are the rows of all in all
+pub rows_together : (c : PlainCaches) (parts : List Part) (id : ℤ) (rows : List Rows) → AllAlike c parts → length rows ≡ length parts
+    → with_rows_of (together parts) id (union rows) ≡ together (with_rows_in_parts parts id rows)
+rows_together c [] id rows all long = refl
+rows_together c (part ∷ parts) id [] all long = absurd (omega (arith, long))
+rows_together c (part ∷ []) id (here ∷ []) all long =
+    let cs : List Cache = part.caches.caches in
+    ap (λ (d : PlainCaches). with_rows_of d id (either here finite.empty)) (both_none part.caches)
+    ∙ ap (λ (r : Rows). with_rows_of part.caches id r) (either_none here)
+    ∙ sym (both_none (with_rows_of part.caches id here))
+rows_together c (part ∷ []) id (here ∷ other ∷ rows) all long = absurd (omega (arith, long))
+rows_together c (part ∷ next ∷ parts) id (here ∷ rows) all long =
+    let P : Part → Type 0 = λ p. AreAlike c p.caches in
+    let rest : PlainCaches = together (next ∷ parts) in
+    let others : AllAlike c (next ∷ parts) = All-tail P part (next ∷ parts) all in
+    let names : heads part.caches ≡ heads rest = sym (All-head P part (next ∷ parts) all).names ∙ heads_together c [] parts next others in
+    let later : with_rows_of rest id (union rows) ≡ together (with_rows_in_parts (next ∷ parts) id rows) =
+    rows_together c (next ∷ parts) id rows others (omega (arith, long)) in
+    ap (λ (cs : List Cache). record part.caches { caches = cs }) (rows_in_both part.caches.caches rest.caches id here (union rows) names)
+    ∙ ap (both (with_rows_of part.caches id here)) later
+
+-- the rows of a cache in all shards lie in their shards
+placed_at : (shards shard : ℕ) (caches : List Cache) (id : ℤ) → All (λ (cache : Cache). IsPlaced shards shard cache.rows) caches → IsPlaced shards shard (rows_at caches id finite.empty)
+placed_at shards shard caches id all = by (cache_of caches id) refl
+  where
+    by : (o : Option Cache) → cache_of caches id ≡ o → IsPlaced shards shard (rows_at caches id finite.empty)
+    by None is =
+        subst (IsPlaced shards shard) (sym (ap (λ (o : Option Cache). option_map_or (λ (k : Cache). k.rows) o finite.empty) is)) (placed_none shards shard)
+    by (Some cache) is =
+        subst (IsPlaced shards shard) (sym (rows_found caches id cache is)) (all_found (λ (k : Cache). IsPlaced shards shard k.rows) caches id cache all is)
+
+placed_as : (shards shard : ℕ) (part : Part) (rows : Rows) → part.number ≡ shard → part.shards ≡ shards → IsPlaced part.shards part.number rows → IsPlaced shards shard rows
+placed_as shards shard part rows number count placed = subst (λ n. IsPlaced n shard rows) count (subst (λ n. IsPlaced part.shards n rows) number placed)
+
+pub spread_parts : (shards next : ℕ) (parts : List Part) (id : ℤ) → AreNumbered shards next parts → AreSpreadFrom shards next (rows_in_parts parts id)
+spread_parts shards next [] id numbered = numbered
+spread_parts shards next (part ∷ parts) id numbered =
+    (
+      placed_as shards next part (rows_at part.caches.caches id finite.empty) numbered.0 numbered.1 (placed_at part.shards part.number part.caches.caches id numbered.2.placed),
+      spread_parts shards (suc next) parts id numbered.3,
+    )
+
+-- with rows that lie in their shards they stay shards
+pub numbered_rows : (shards next : ℕ) (parts : List Part) (id : ℤ) (rows : List Rows) → AreNumbered shards next parts → AreSpreadFrom shards next rows → AreNumbered shards next (with_rows_in_parts parts id rows)
+numbered_rows shards next [] id rows numbered spread = numbered
+numbered_rows shards next (part ∷ parts) id [] numbered spread = numbered
+numbered_rows shards next (part ∷ parts) id (here ∷ rows) numbered spread =
+    let it : IsPart part = numbered.2 in
+    let placed : IsPlaced part.shards part.number here = subst (λ n. IsPlaced n part.number here) (sym numbered.1) (subst (λ n. IsPlaced shards n here) (sym numbered.0) spread.0) in
+    (
+      numbered.0, numbered.1,
+      record {
+        within = it.within;
+        few = it.few;
+        placed = all_with_rows (IsPlaced part.shards part.number) part.caches.caches id here it.placed placed;
+        typeless = it.typeless;
+      },
+      numbered_rows shards (suc next) parts id rows numbered.3 spread.1,
+    )
+
+pub alike_rows : (c : PlainCaches) (parts : List Part) (id : ℤ) (rows : List Rows) → AllAlike c parts → AllAlike c (with_rows_in_parts parts id rows)
+alike_rows c [] id rows all = all
+alike_rows c (part ∷ parts) id [] all = all
+alike_rows c (part ∷ parts) id (here ∷ rows) all =
+    let P : Part → Type 0 = λ p. AreAlike c p.caches in
+    let it : AreAlike c part.caches = All-head P part parts all in
+    All-cons P (record part { caches = with_rows_of part.caches id here }) (with_rows_in_parts parts id rows)
+    (record { names = it.names ∙ sym (heads_with_rows part.caches.caches id here); counts = it.counts })
+    (alike_rows c parts id rows (All-tail P part parts all))
+
+-- rows that were put twice are those that were put last
+pub rows_twice : (parts : List Part) (id : ℤ) (rows more : List Rows) → length rows ≡ length more → with_rows_in_parts (with_rows_in_parts parts id rows) id more ≡ with_rows_in_parts parts id more
+rows_twice [] id rows more long = refl
+rows_twice (part ∷ parts) id [] [] long = refl
+rows_twice (part ∷ parts) id [] (r ∷ more) long = absurd (omega (arith, long))
+rows_twice (part ∷ parts) id (r ∷ rows) [] long = absurd (omega (arith, long))
+rows_twice (part ∷ parts) id (r ∷ rows) (m ∷ more) long =
+    ap₂ (λ (cs : List Cache) (ps : List Part). record part { caches = record part.caches { caches = cs } } ∷ ps) (with_twice part.caches.caches id r m)
+    (rows_twice parts id rows more (omega (arith, long)))
+
+-- ---- creations and destructions
+added_to_both : (name : List ℕ) (caches others : List Cache) → map head caches ≡ map head others
+    → beside (caches ++ fresh_cache name ∷ []) (others ++ fresh_cache name ∷ []) ≡ beside caches others ++ fresh_cache name ∷ []
+added_to_both name [] [] same = ap (λ (r : Rows). record (fresh_cache name) { rows = r } ∷ []) (either_none finite.empty)
+added_to_both name [] (b ∷ others) same = absurd (cc)
+added_to_both name (a ∷ caches) [] same = absurd (cc)
+added_to_both name (a ∷ caches) (b ∷ others) same =
+    ap (λ (cs : List Cache). record a { rows = either a.rows b.rows } ∷ cs) (added_to_both name caches others (same_rest a b caches others same))
+
+removed_from_both : (id : ℤ) (caches others : List Cache) → map head caches ≡ map head others
+    → beside (caches_without caches id) (caches_without others id) ≡ caches_without (beside caches others) id
+removed_from_both id [] [] same = refl
+removed_from_both id [] (b ∷ others) same = absurd (cc)
+removed_from_both id (a ∷ caches) [] same = absurd (cc)
+removed_from_both id (a ∷ caches) (b ∷ others) same = elim (cases_Bool (has_id id a)) [
+  | inl here ↦
+      let there : has_id id b ≡ true = sym (ap (int_eq id) (same_first a b caches others same)) ∙ here in
+      ap (λ (cs : List Cache). beside cs (caches_without (b ∷ others) id)) (cond-true (has_id id a) caches (a ∷ caches_without caches id) here)
+      ∙ ap (beside caches) (cond-true (has_id id b) others (b ∷ caches_without others id) there)
+      ∙ sym (cond-true (has_id id a) _ _ here)
+  | inr later ↦
+      let beyond : has_id id b ≡ false = sym (ap (int_eq id) (same_first a b caches others same)) ∙ later in
+      ap (λ (cs : List Cache). beside cs (caches_without (b ∷ others) id)) (cond-false (has_id id a) caches (a ∷ caches_without caches id) later)
+      ∙ ap (beside (a ∷ caches_without caches id)) (cond-false (has_id id b) others (b ∷ caches_without others id) beyond)
+      ∙ ap (λ (cs : List Cache). record a { rows = either a.rows b.rows } ∷ cs) (removed_from_both id caches others (same_rest a b caches others same))
+      ∙ sym (cond-false (has_id id a) _ _ later)
+]
