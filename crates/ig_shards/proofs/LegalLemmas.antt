@@ -184,3 +184,64 @@ module _ (shards shard : ℕ) where
       turned : (n : ℕ) → nat_eq 0 n ≡ false → nat_eq n 0 ≡ false
       turned zero e = e
       turned (suc n) e = refl
+
+  one_other : (a b : ℕ) → nat_eq a b ≡ true → a ≡ b
+  one_other a b e = (Decides-nat_eq a b).0 e
+
+  -- a call that touches this shard alone is answered of what the shard has
+  one_seen : (ask : Call) (c : PlainCaches) (other : ℕ) → IsApart ask shards other → nat_eq other shard ≡ true
+      → LeavesAlike (ran c (effect ask)) (ran (see c) (effect ask)) × ((ran c (effect ask)).0 ≡ (ran (see c) (effect ask)).0)
+  one_seen ask c other (inl it) here =
+      let P : Effect → Type 0 = λ e. LeavesAlike (ran c e) (ran (see c) e) × ((ran c e).0 ≡ (ran (see c) e).0) in
+      subst P (sym it.on.is) (key_seen c it.id it.key it.on.does (ap (λ n. nat_eq n shard) it.there ∙ here))
+  one_seen ask c other (inr it) here =
+      let at : 0 ≡ shard = sym it.1 ∙ one_other other shard here in
+      let P : ℕ → Type 0 = λ s. ((cut_to shards s (it.0.does c).1 ≡ cut_to shards s (it.0.does (cut_to shards s c)).1) × ((it.0.does c).1.minor ≡ (it.0.does (cut_to shards s c)).1.minor))
+      × ((it.0.does c).0 ≡ (it.0.does (cut_to shards s c)).0) in
+      let Q : Effect → Type 0 = λ e. LeavesAlike (ran c e) (ran (see c) e) × ((ran c e).0 ≡ (ran (see c) e).0) in
+      subst Q (sym it.0.is) (subst P at ((it.0.leaves shards c, it.0.counts c ∙ sym (it.0.counts (cut_to shards 0 c))), it.0.answers shards c))
+
+  -- and one that touches another leaves what this one has
+  one_unseen : (ask : Call) (c : PlainCaches) (other : ℕ) → IsApart ask shards other → nat_eq other shard ≡ false → see (after c ask) ≡ see c
+  one_unseen ask c other (inl it) out =
+      ap (λ (e : Effect). see (ran c e).1) it.on.is ∙ key_unseen c it.id it.key it.on.does (ap (λ n. nat_eq n shard) it.there ∙ out)
+  one_unseen ask c other (inr it) out = types_unseen c ask it.0 (sym (ap (λ n. nat_eq n shard) it.1) ∙ out)
+
+  abbrev answer_of : Outcome × PlainCaches → Answer
+  answer_of r = record { minor = r.1.minor; outcome = r.0 }
+
+  same_answer : (r s : Outcome × PlainCaches) → r.0 ≡ s.0 → r.1.minor ≡ s.1.minor → answer_of r ≡ answer_of s
+  same_answer r s outcome minor = λ i. record { minor = minor i; outcome = outcome i }
+
+  -- ---- histories
+  legal_at : (entries : List (Entry Call Answer)) (c : PlainCaches) → Legal c entries → LegalAt shards shard (see c) (entries_at shards shard entries)
+  legal_at [] c legal = tt
+  legal_at (entry ∷ entries) c legal = by (touches entry.ask shards) refl
+    where
+      rest : LegalAt shards shard (see (after c entry.ask)) (entries_at shards shard entries)
+      rest = legal_at entries (after c entry.ask) legal.1
+
+      abbrev Goal : Touched → Type 0
+      Goal t = LegalAt shards shard (see c) (cond (is_touched t shard) (entry ∷ entries_at shards shard entries) (entries_at shards shard entries))
+
+      from_here : (t : Touched) → touches entry.ask shards ≡ t → IsAnswerAt t (see c) entry → see (after c entry.ask) ≡ see (after (see c) entry.ask)
+          → LegalAt shards shard (see c) (entry ∷ entries_at shards shard entries)
+      from_here t is answer leaves =
+          (subst (λ u. IsAnswerAt u (see c) entry) (sym is) answer, subst (λ d. LegalAt shards shard d (entries_at shards shard entries)) leaves rest)
+
+      at_one : (other : ℕ) → touches entry.ask shards ≡ touched.One other → (b : Bool) → nat_eq other shard ≡ b
+          → LegalAt shards shard (see c) (cond b (entry ∷ entries_at shards shard entries) (entries_at shards shard entries))
+      at_one other is true here =
+          let seen = one_seen entry.ask c other (apart entry.ask shards other is) here in
+          from_here (touched.One other) is (legal.0 ∙ same_answer (ran c (effect entry.ask)) (ran (see c) (effect entry.ask)) seen.1 seen.0.1) seen.0.0
+      at_one other is false out =
+          subst (λ d. LegalAt shards shard d (entries_at shards shard entries)) (one_unseen entry.ask c other (apart entry.ask shards other is) out) rest
+
+      by : (t : Touched) → touches entry.ask shards ≡ t → LegalAt shards shard (see c) (entries_at shards shard (entry ∷ entries))
+      by (touched.One other) is = subst Goal (sym is) (at_one other is (nat_eq other shard) refl)
+      by touched.All is =
+          let seen = all_seen entry.ask c is in
+          subst Goal (sym is) (from_here touched.All is (ap (λ (a : Answer). a.minor) legal.0 ∙ seen.1) seen.0)
+
+pub legal_at_each : LegalAtEachShard
+legal_at_each shards shard c entries within legal = legal_at shards shard entries c legal

@@ -3,5 +3,8 @@ pub mod BesideLemmas
 pub mod PartLemmas
 pub mod TogetherLemmas
 pub mod RunLemmas
+pub mod FreshLemmas
+pub mod WholeLemmas
 pub mod MarkLemmas
 pub mod CutLemmas
+pub mod LegalLemmas

@@ -1,5 +1,5 @@
 -- Shards together: a call that touches one of them needs this one alone.
-use Rattle.std.proofs.Common.{◌≡◌, ◌≢◌, ◌<◌, ◌+◌, ◌⊎◌, ℕ, suc, ℤ, pos, Bool, true, false, cond, List, [], ◌∷◌, ◌++◌, length, take, drop, get_or, set, map, All, Option, None, Some, is_some, refl, sym, ap, ◌∙◌, subst, inl, inr, arith}
+use Rattle.std.proofs.Common.{◌≡◌, ◌≢◌, ◌<◌, ◌+◌, ◌⊎◌, ◌&&◌, ◌||◌, ℕ, suc, ℤ, pos, Bool, true, false, cond, List, [], ◌∷◌, ◌++◌, length, take, drop, get_or, set, map, All, Option, None, Some, is_some, refl, sym, ap, ap₂, ◌∙◌, subst, inl, inr, arith}
 use Rattle.std.proofs.lemmas.List.Elements.{All-nil, All-cons, All-head, All-tail}
 use Rattle.std.specs.Option.{is_none, option_map_or}
 use Rattle.std.specs.List.{list_all, list_any}
@@ -8,7 +8,7 @@ use Rattle.ig_value.specs.declared.value.Value.{Value}
 use Rattle.ig_value.specs.Canon.{Canon}
 use Rattle.ig_types.specs.declared.clash.Clash.{Clash}
 use Rattle.ig_types.specs.declared.meta.TypeMeta.{TypeMeta}
-use Rattle.ig_types.specs.Registered.{put_clash, registry_after_put, admits_name, registry_after_name}
+use Rattle.ig_types.specs.Registered.{Registered, put_clash, registry_after_put, admits_name, registry_after_name}
 use Rattle.ig_types.specs.AffinityPair.{affinity_pairs_of}
 use Rattle.ig_caches.specs.declared.call.Call.{Call}
 use Rattle.ig_caches.specs.declared.call.Call.TheVariants.{Get, GetAndRemove, ContainsKey, ClearKey, RemoveKey, Put, PutIfAbsent, GetAndPut, GetAndReplace, GetAndPutIfAbsent, Replace, ReplaceIfEquals, RemoveIfEquals, TypeName, SetTypeName, TypeOf, PutType, Affinity}
@@ -27,6 +27,8 @@ use Rattle.ig_shards.specs.declared.touched.Touched.TheVariants.{One} as touched
 use Rattle.ig_shards.specs.ShardOf.{shard_of, shard_of_key}
 use Rattle.ig_shards.specs.Touches.{touches}
 use Rattle.ig_shards.specs.Spread.{IsPlaced}
+use Rattle.ig_shards.specs.LegalAt.{cut_to}
+use Rattle.ig_shards.proofs.CutLemmas.{cut_cache, caches_cut_twice}
 use Rattle.ig_shards.specs.Parts.{Part, beside, both, together, heads, AreAlike, IsPart, AreNumbered, AllAlike, AreAll}
 use Rattle.ig_shards.proofs.SpreadLemmas.{not_less, less_next, not_first, none_elsewhere, placed_changed}
 use Rattle.ig_shards.proofs.BesideLemmas.{head, beside_none, beside_heads, HaveNone, none_in_both, all_found, all_with_rows, heads_with_rows, key_first, key_second}
@@ -39,6 +41,8 @@ pub record IsOnTypes (call : Call) : Type 0 where
   pub alone : (c d : PlainCaches) → does (both c d) ≡ ((does c).0, both (does c).1 d)
   pub caches : (c : PlainCaches) → (does c).1.caches ≡ c.caches
   pub counts : (c : PlainCaches) → (does c).1.minor ≡ c.minor
+  pub answers : (shards : ℕ) (c : PlainCaches) → (does c).0 ≡ (does (cut_to shards 0 c)).0
+  pub leaves : (shards : ℕ) (c : PlainCaches) → cut_to shards 0 (does c).1 ≡ cut_to shards 0 (does (cut_to shards 0 c)).1
 
 -- a call on a key that lies in the shard
 pub record IsOnKeyIn (call : Call) (shards shard : ℕ) : Type 0 where
@@ -66,13 +70,15 @@ module _ (call : Call) (shards shard : ℕ) (id : ℤ) (key : Value) where
 any_in_both : (id : ℤ) (caches others : List Cache) → list_any (has_id id) (beside caches others) ≡ list_any (has_id id) caches
 any_in_both id [] others = refl
 any_in_both id (a ∷ caches) [] = refl
-any_in_both id (a ∷ caches) (b ∷ others) = ap (λ (t : Bool). cond (has_id id a) true t) (any_in_both id caches others)
+any_in_both id (a ∷ caches) (b ∷ others) = ap (λ (t : Bool). has_id id a || t) (any_in_both id caches others)
 
 all_in_both : (ids : List ℤ) (caches others : List Cache) → list_all (λ id. list_any (has_id id) (beside caches others)) ids ≡ list_all (λ id. list_any (has_id id) caches) ids
 all_in_both [] caches others = refl
-all_in_both (id ∷ ids) caches others =
-    ap (λ (t : Bool). cond t (list_all (λ i. list_any (has_id i) (beside caches others)) ids) false) (any_in_both id caches others)
-    ∙ ap (λ (t : Bool). cond (list_any (has_id id) caches) t false) (all_in_both ids caches others)
+all_in_both (id ∷ ids) caches others = ap₂ (λ (s t : Bool). s && t) (any_in_both id caches others) (all_in_both ids caches others)
+
+-- other types, whether the rows were cut before or not
+cut_types : (shards : ℕ) (c : PlainCaches) (r : Registered) → cut_to shards 0 (record c { registry = r }) ≡ cut_to shards 0 (record (cut_to shards 0 c) { registry = r })
+cut_types shards c r = ap (λ (d : PlainCaches). record d { registry = r }) (sym (caches_cut_twice shards 0 c))
 
 module _ (meta : TypeMeta) (c d : PlainCaches) where
   put_left : PlainCaches → Option Clash → Outcome × PlainCaches
@@ -93,6 +99,19 @@ module _ (meta : TypeMeta) (c d : PlainCaches) where
   put_counts None = refl
   put_counts (Some clash) = refl
 
+  put_cut : (shards : ℕ) (o : Option Clash) → ((put_left c o).0 ≡ (put_left (cut_to shards 0 c) o).0) × (cut_to shards 0 (put_left c o).1 ≡ cut_to shards 0 (put_left (cut_to shards 0 c) o).1)
+  unfolding put_left
+  put_cut shards None = (refl, cut_types shards c (registry_after_put c.registry meta))
+  put_cut shards (Some clash) = (refl, sym (caches_cut_twice shards 0 c))
+
+  put_answers : (shards : ℕ) → (after_put_type meta c).0 ≡ (after_put_type meta (cut_to shards 0 c)).0
+  unfolding put_left
+  put_answers shards = (put_cut shards (put_clash c.registry meta)).0
+
+  put_seen : (shards : ℕ) → cut_to shards 0 (after_put_type meta c).1 ≡ cut_to shards 0 (after_put_type meta (cut_to shards 0 c)).1
+  unfolding put_left
+  put_seen shards = (put_cut shards (put_clash c.registry meta)).1
+
   put_alone : after_put_type meta (both c d) ≡ ((after_put_type meta c).0, both (after_put_type meta c).1 d)
   unfolding put_left
   put_alone = put_beside (put_clash c.registry meta)
@@ -104,6 +123,17 @@ module _ (meta : TypeMeta) (c d : PlainCaches) where
   put_same_count : (after_put_type meta c).1.minor ≡ c.minor
   unfolding put_left
   put_same_count = put_counts (put_clash c.registry meta)
+
+any_seen : (shards : ℕ) (id : ℤ) (caches : List Cache) → list_any (has_id id) (map (cut_cache shards 0) caches) ≡ list_any (has_id id) caches
+any_seen shards id [] = refl
+any_seen shards id (a ∷ caches) = ap (λ (t : Bool). has_id id a || t) (any_seen shards id caches)
+
+all_ids_seen : (shards : ℕ) (ids : List ℤ) (caches : List Cache) → list_all (λ id. list_any (has_id id) (map (cut_cache shards 0) caches)) ids ≡ list_all (λ id. list_any (has_id id) caches) ids
+all_ids_seen shards [] caches = refl
+all_ids_seen shards (id ∷ ids) caches = ap₂ (λ (s t : Bool). s && t) (any_seen shards id caches) (all_ids_seen shards ids caches)
+
+keys_seen : (ids : List ℤ) (shards : ℕ) (c : PlainCaches) → affinity_of (cut_to shards 0 c) ids ≡ affinity_of c ids
+keys_seen ids shards c = ap (λ (t : Bool). cond t (Keys (affinity_pairs_of c.registry)) (Refused why.NoCache)) (all_ids_seen shards ids c.caches)
 
 keys_alone : (ids : List ℤ) (c d : PlainCaches) → affinity_of (both c d) ids ≡ affinity_of c ids
 keys_alone ids c d = ap (λ (t : Bool). cond t (Keys (affinity_pairs_of c.registry)) (Refused why.NoCache)) (all_in_both ids c.caches d.caches)
@@ -134,6 +164,8 @@ apart (TypeName platform type) n s is = inr (record {
   alone = λ c d. refl;
   caches = λ c. refl;
   counts = λ c. refl;
+  answers = λ shards c. refl;
+  leaves = λ shards c. sym (caches_cut_twice shards 0 c);
 }, one_shard s 0 (sym is))
 apart (SetTypeName platform type name) n s is = inr (record {
   does = λ c. (Yes (admits_name c.registry (platform, type) name), record c { registry = registry_after_name c.registry (platform, type) name });
@@ -141,6 +173,8 @@ apart (SetTypeName platform type name) n s is = inr (record {
   alone = λ c d. refl;
   caches = λ c. refl;
   counts = λ c. refl;
+  answers = λ shards c. refl;
+  leaves = λ shards c. cut_types shards c (registry_after_name c.registry (platform, type) name);
 }, one_shard s 0 (sym is))
 apart (TypeOf type) n s is = inr (record {
   does = λ c. (Meta (finite.get c.registry.types type), c);
@@ -148,6 +182,8 @@ apart (TypeOf type) n s is = inr (record {
   alone = λ c d. refl;
   caches = λ c. refl;
   counts = λ c. refl;
+  answers = λ shards c. refl;
+  leaves = λ shards c. sym (caches_cut_twice shards 0 c);
 }, one_shard s 0 (sym is))
 apart (PutType meta) n s is = inr (record {
   does = after_put_type meta;
@@ -155,6 +191,8 @@ apart (PutType meta) n s is = inr (record {
   alone = λ c d. put_alone meta c d;
   caches = λ c. put_leaves meta c c;
   counts = λ c. put_same_count meta c c;
+  answers = λ shards c. put_answers meta c c shards;
+  leaves = λ shards c. put_seen meta c c shards;
 }, one_shard s 0 (sym is))
 apart (Affinity ids) n s is = inr (record {
   does = λ c. (affinity_of c ids, c);
@@ -162,6 +200,8 @@ apart (Affinity ids) n s is = inr (record {
   alone = λ c d. ap (λ (o : Outcome). (o, both c d)) (keys_alone ids c d);
   caches = λ c. refl;
   counts = λ c. refl;
+  answers = λ shards c. sym (keys_seen ids shards c);
+  leaves = λ shards c. sym (caches_cut_twice shards 0 c);
 }, one_shard s 0 (sym is))
 apart _ n s is = absurd (cc)
 

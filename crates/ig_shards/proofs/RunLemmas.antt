@@ -13,6 +13,7 @@ use Rattle.ig_caches.specs.RunsOn.{RunsOn}
 use Rattle.ig_shards.specs.declared.touched.Touched.TheVariants as touched
 use Rattle.ig_shards.specs.Touches.{touches}
 use Rattle.ig_shards.specs.Parts.{Part, both, together, heads, AreAlike, IsPart, AreNumbered, AllAlike, AreAll}
+use Rattle.ig_shards.specs.Laws.{NeedsItsShardAlone}
 use Rattle.ig_shards.proofs.PartLemmas.{IsApart, apart, alone, apart_keeps, number_at, part_at, alike_at, both_none, split_parts, split_set, numbered_set, alike_set}
 
 -- an answer is the outcome with the count after it
@@ -127,3 +128,7 @@ module _ (shards i : ℕ) (parts : List Part) (d new : Part) (call : Call) (all 
   runs_alone (Err e) runs =
       let same : set parts i new ≡ parts = ap (set parts i) (same_part part new number count runs.1) ∙ set-get_or parts i d in
       ((runs.0, ap together same), subst (AreAll shards) (sym same) all)
+
+pub needs_alone : NeedsItsShardAlone
+needs_alone shards before later part call all touches_it =
+    (answered_alone shards before later part call all touches_it, left_alone shards before later part call all touches_it)

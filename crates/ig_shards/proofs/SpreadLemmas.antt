@@ -333,3 +333,33 @@ spread_none shards next [] count none = omega (arith, count)
 spread_none shards next (rows ∷ others) count none =
     let P : Rows → Type 0 = λ r. r ≡ finite.empty in
     (subst (IsPlaced shards next) (sym (All-head P rows others none)) (placed_none shards next), spread_none shards (suc next) others (omega (arith, count)) (All-tail P rows others none))
+
+-- ---- the shard of a key
+any_default : (all : List Rows) (i : ℕ) (d e : Rows) → i < length all → get_or all i d ≡ get_or all i e
+any_default [] i d e within = absurd (not_within i within)
+any_default (rows ∷ all) zero d e within = refl
+any_default (rows ∷ all) (suc i) d e within = any_default all i d e (within_rest i (length all) within)
+
+at_zero : (a i : ℕ) → i ≡ a → a ≡ 0 + i
+at_zero a i e = omega (arith, e)
+
+module _ (shards i : ℕ) (key : Value) (all : List Rows) (d : Rows) (spread : AreSpreadFrom shards 0 all) (is : i ≡ shard_of shards (Canon key)) (within : i < length all) where
+  at : shard_of shards (Canon key) ≡ 0 + i
+  at = at_zero (shard_of shards (Canon key)) i is
+
+  -- it says what all say of the key
+  pub row_here : row_of (get_or all i d) key ≡ row_of (union all) key
+  row_here =
+      ap (λ (r : Rows). finite.get r (Canon key)) (any_default all i d finite.empty within)
+      ∙ sym (get_union shards 0 i (Canon key) all spread at within)
+
+  -- the row of the key changes in all as it does here
+  pub changed_here : (change : Change) (new : Rows) → new ≡ changed (get_or all i d) key change → union (set all i new) ≡ changed (union all) key change
+  changed_here change new leaves =
+      ap (λ (r : Rows). union (set all i r)) (leaves ∙ ap (λ (r : Rows). changed r key change) (any_default all i d finite.empty within))
+      ∙ union_changed shards 0 i key change all spread at within
+
+  pub spread_here : (change : Change) (new : Rows) → new ≡ changed (get_or all i d) key change → AreSpreadFrom shards 0 (set all i new)
+  spread_here change new leaves =
+      subst (λ (r : Rows). AreSpreadFrom shards 0 (set all i r)) (sym (leaves ∙ ap (λ (r : Rows). changed r key change) (any_default all i d finite.empty within)))
+      (spread_changed shards 0 i key change all spread at)

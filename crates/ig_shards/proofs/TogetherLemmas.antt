@@ -1,7 +1,8 @@
 -- Shards together: calls that need all of them.
-use Rattle.std.proofs.Common.{◌≡◌, ◌≢◌, ◌<◌, ◌+◌, ◌++◌, ℕ, suc, ℤ, pos, Bool, true, false, nat_le, cond, List, [], ◌∷◌, length, map, All, Option, None, Some, refl, sym, ap, ap₂, ◌∙◌, subst, inl, inr, arith}
+use Rattle.std.proofs.Common.{◌≡◌, ◌≢◌, ◌<◌, ◌+◌, ◌++◌, ℕ, suc, ℤ, pos, Bool, true, false, nat_le, cond, List, [], ◌∷◌, length, take, get_or, set, map, All, Option, None, Some, refl, sym, ap, ap₂, ◌∙◌, subst, inl, inr, arith}
 use Rattle.std.proofs.lemmas.Bool.{cases_Bool, cond-true, cond-false}
 use Rattle.std.proofs.lemmas.List.Elements.{All-nil, All-cons, All-head, All-tail}
+use Rattle.std.proofs.Math.Seq.{take-nil}
 use Rattle.std.specs.Ordering.{int_eq}
 use Rattle.std.specs.Option.{option_map_or}
 use Rattle.std.specs.FinMap as finite
@@ -17,7 +18,7 @@ use Rattle.ig_caches.proofs.KeyLemmas.{with_twice}
 use Rattle.ig_caches.proofs.CacheLemmas.{with_own}
 use Rattle.ig_shards.specs.Spread.{either, union, IsPlaced, AreSpreadFrom}
 use Rattle.ig_shards.specs.Parts.{Part, beside, both, together, heads, AreAlike, IsPart, AreNumbered, AllAlike, AreAll}
-use Rattle.ig_shards.specs.RowsOfParts.{rows_in_parts, with_rows_in_parts}
+use Rattle.ig_shards.specs.RowsOfParts.{rows_in_parts, rows_or, with_rows_in_parts}
 use Rattle.ig_shards.proofs.SpreadLemmas.{either_none, placed_none}
 use Rattle.ig_shards.proofs.BesideLemmas.{head, same_first, same_rest, beside_none, beside_heads, IsInBoth, found_in_both, rows_in_both, all_found, all_with_rows, heads_with_rows}
 use Rattle.ig_shards.proofs.PartLemmas.{both_none, heads_together}
@@ -175,3 +176,92 @@ removed_from_both id (a ∷ caches) (b ∷ others) same = elim (cases_Bool (has_
       ∙ ap (λ (cs : List Cache). record a { rows = either a.rows b.rows } ∷ cs) (removed_from_both id caches others (same_rest a b caches others same))
       ∙ sym (cond-false (has_id id a) _ _ later)
 ]
+
+-- ---- the rows of a cache are taken out of each shard in turn, and put back
+rows_none : (parts : List Part) (id : ℤ) → with_rows_in_parts parts id [] ≡ parts
+rows_none [] id = refl
+rows_none (part ∷ parts) id = refl
+
+pub swapped : (parts : List Part) (id : ℤ) (rows : List Rows) (i : ℕ) (d : Part) (e : Rows) → i < length parts → length rows ≡ length parts
+    → set (with_rows_in_parts parts id (take i rows)) i
+    (record (get_or (with_rows_in_parts parts id (take i rows)) i d) { caches = with_rows_of (get_or (with_rows_in_parts parts id (take i rows)) i d).caches id (get_or rows i e) })
+    ≡ with_rows_in_parts parts id (take (suc i) rows)
+swapped [] id rows i d e within long = absurd (omega (arith, within))
+swapped (part ∷ parts) id [] i d e within long = absurd (omega (arith, long))
+swapped (part ∷ parts) id (r ∷ rows) zero d e within long = ap (λ (ps : List Part). record part { caches = with_rows_of part.caches id r } ∷ ps) (sym (rows_none parts id))
+swapped (part ∷ parts) id (r ∷ rows) (suc i) d e within long =
+    ap (λ (ps : List Part). record part { caches = with_rows_of part.caches id r } ∷ ps) (swapped parts id rows i d e (omega (arith, within)) (omega (arith, long)))
+
+-- the shard that is next has its own rows yet
+pub next_part : (parts : List Part) (id : ℤ) (rows : List Rows) (i : ℕ) (d : Part) → get_or (with_rows_in_parts parts id (take i rows)) i d ≡ get_or parts i d
+next_part [] id rows i d = refl
+next_part (part ∷ parts) id [] zero d = refl
+next_part (part ∷ parts) id [] (suc i) d = refl
+next_part (part ∷ parts) id (r ∷ rows) zero d = refl
+next_part (part ∷ parts) id (r ∷ rows) (suc i) d = next_part parts id rows i d
+
+pub taken_rows : (parts : List Part) (id : ℤ) (rows : List Rows) (i : ℕ) (d : Part) (e : Rows) → i < length parts → length rows ≡ length parts
+    → set (rows_or (take i parts) id rows) i (rows_at (get_or parts i d).caches.caches id (get_or (rows_or (take i parts) id rows) i e)) ≡ rows_or (take (suc i) parts) id rows
+taken_rows [] id rows i d e within long = absurd (omega (arith, within))
+taken_rows (part ∷ parts) id [] i d e within long = absurd (omega (arith, long))
+taken_rows (part ∷ parts) id (r ∷ rows) zero d e within long = refl
+taken_rows (part ∷ parts) id (r ∷ rows) (suc i) d e within long =
+    ap (λ (rs : List Rows). rows_at part.caches.caches id r ∷ rs) (taken_rows parts id rows i d e (omega (arith, within)) (omega (arith, long)))
+
+pub next_rows : (parts : List Part) (id : ℤ) (rows : List Rows) (i : ℕ) (e : Rows) → get_or (rows_or (take i parts) id rows) i e ≡ get_or rows i e
+next_rows [] id rows i e = ap (λ (ps : List Part). get_or (rows_or ps id rows) i e) (take-nil i)
+next_rows (part ∷ parts) id rows zero e = refl
+next_rows (part ∷ parts) id [] (suc i) e = refl
+next_rows (part ∷ parts) id (r ∷ rows) (suc i) e = next_rows parts id rows i e
+
+-- no rows are swapped with those of all shards
+pub all_taken : (parts : List Part) (id : ℤ) (rows : List Rows) → All (λ (r : Rows). r ≡ finite.empty) rows → length rows ≡ length parts → rows_or parts id rows ≡ rows_in_parts parts id
+all_taken [] id [] none long = refl
+all_taken [] id (r ∷ rows) none long = absurd (omega (arith, long))
+all_taken (part ∷ parts) id [] none long = absurd (omega (arith, long))
+all_taken (part ∷ parts) id (r ∷ rows) none long =
+    let P : Rows → Type 0 = λ r. r ≡ finite.empty in
+    ap₂ (λ (r : Rows) (rs : List Rows). r ∷ rs) (ap (rows_at part.caches.caches id) (All-head P r rows none)) (all_taken parts id rows (All-tail P r rows none) (omega (arith, long)))
+
+-- ---- one more cache in all shards, and one less
+both_created : (c d : PlainCaches) (name : List ℕ) → AreAlike c d → created (both c d) name ≡ ((created c name).0, both (created c name).1 (created d name).1)
+both_created c d name alike =
+    ap (λ n. cond (nat_le max_caches n) (Refused why.TooManyCaches, both c d) (changed_to (both c d) ((both c d).caches ++ fresh_cache name ∷ []))) (length_both c.caches d.caches)
+    ∙ by (nat_le max_caches (length c.caches)) refl
+  where
+    length_both : (caches others : List Cache) → length (beside caches others) ≡ length caches
+    length_both [] others = refl
+    length_both (a ∷ caches) [] = refl
+    length_both (a ∷ caches) (b ∷ others) = ap suc (length_both caches others)
+
+    same_length : length d.caches ≡ length c.caches
+    same_length = by_heads c.caches d.caches alike.names
+      where
+        by_heads : (caches others : List Cache) → map head caches ≡ map head others → length others ≡ length caches
+        by_heads [] [] same = refl
+        by_heads [] (b ∷ others) same = absurd (cc)
+        by_heads (a ∷ caches) [] same = absurd (cc)
+        by_heads (a ∷ caches) (b ∷ others) same = ap suc (by_heads caches others (same_rest a b caches others same))
+
+    abbrev made : PlainCaches → ℕ → Bool → Outcome × PlainCaches
+    made e n b = cond b (Refused why.TooManyCaches, e) (changed_to e (e.caches ++ fresh_cache name ∷ []))
+
+    abbrev counted : PlainCaches → List Cache → Option ℤ → Outcome × PlainCaches
+    counted e caches o = option_map_or (λ (minor : ℤ). (Done, record e { caches = caches; minor = minor })) o (Refused why.TooManyChanges, e)
+
+    count : (o : Option ℤ) → counted (both c d) ((both c d).caches ++ fresh_cache name ∷ []) o
+        ≡ ((counted c (c.caches ++ fresh_cache name ∷ []) o).0, both (counted c (c.caches ++ fresh_cache name ∷ []) o).1 (counted d (d.caches ++ fresh_cache name ∷ []) o).1)
+    count None = refl
+    count (Some minor) = ap (λ (cs : List Cache). (Done, record c { caches = cs; minor = minor })) (sym (added_to_both name c.caches d.caches alike.names))
+
+    by : (b : Bool) → nat_le max_caches (length c.caches) ≡ b → made (both c d) 0 b ≡ ((created c name).0, both (created c name).1 (created d name).1)
+    by b is =
+        all_by b
+        ∙ ap₂ (λ (r s : Outcome × PlainCaches). (r.0, both r.1 s.1)) (ap (made c 0) (sym is)) (ap (made d 0) (sym (ap (nat_le max_caches) same_length ∙ is)))
+      where
+        all_by : (b : Bool) → made (both c d) 0 b ≡ ((made c 0 b).0, both (made c 0 b).1 (made d 0 b).1)
+        all_by true = refl
+        all_by false =
+            count (next_count c.minor)
+            ∙ ap (λ (o : Option ℤ). ((counted c (c.caches ++ fresh_cache name ∷ []) (next_count c.minor)).0,
+            both (counted c (c.caches ++ fresh_cache name ∷ []) (next_count c.minor)).1 (counted d (d.caches ++ fresh_cache name ∷ []) o).1)) (ap next_count alike.counts)

@@ -35,3 +35,6 @@ loop-form-preserved c =
       keys = subst (All HasKey) (sym c.in_ok-push.ensures.items)
           (All-push HasKey c.loop-form.entries.items (c.as_slice.result, c.in-Some.value) c.loop-form.invariant.keys spelled);
     }
+
+pub returns-clause-rows : goal.returns-clause-rows
+returns-clause-rows c = search rules ∙ sym (sorted_entries (λ k. k.items) c.args.rows.now.entries c.len.ensures.ordered)
