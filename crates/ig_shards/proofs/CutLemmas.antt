@@ -1,7 +1,6 @@
 -- What a shard sees of calls: caches cut to it.
 use Rattle.std.proofs.Common.{◌≡◌, ◌≢◌, ◌<◌, ◌⊎◌, ◌++◌, ℕ, suc, ℤ, nat_eq, nat_le, Bool, true, false, cond, List, [], ◌∷◌, length, map, fold, Option, None, Some, option_map, refl, sym, ap, ap₂, ◌∙◌, subst, inl, inr, arith}
 use Rattle.std.proofs.lemmas.Bool.{cases_Bool, cond-true, cond-false}
-use Rattle.std.proofs.lemmas.Bool.Decides.{Decides-nat_eq}
 use Rattle.std.specs.Cmp.Lexicographic.{nat_list_cmp_total}
 use Rattle.std.specs.Option.{option_map_or}
 use Rattle.std.specs.FinMap as finite
@@ -18,7 +17,7 @@ use Rattle.ig_caches.proofs.RowEntryLemmas.{by_bytes, exact, ties, tied_same, sa
 use Rattle.ig_caches.proofs.KeyLemmas.{ran_none, ran_some}
 use Rattle.ig_caches.proofs.CacheLemmas.{with_own}
 use Rattle.ig_shards.specs.ShardOf.{shard_of}
-use Rattle.ig_shards.specs.LegalAt.{rows_in, types_in, cut_to}
+use Rattle.ig_shards.specs.LegalAt.{rows_in, types_in, cut_cache, cut_to}
 
 module _ (shards shard : ℕ) where
   -- tests whether the bytes lie in the shard
@@ -80,31 +79,31 @@ module _ (shards shard : ℕ) where
   agree_changed a b key remove agree = agree_without a b (Canon key) agree
 
   -- ---- caches
-  abbrev pub cut_cache : Cache → Cache
-  cut_cache cache = record cache { rows = rows_in shards shard cache.rows }
+  abbrev cut_it : Cache → Cache
+  cut_it cache = cut_cache shards shard cache
 
   cut_twice : (rows : Rows) → cut (cut rows) ≡ cut rows
   cut_twice rows = same_cut (cut rows) rows (cut_agrees rows)
 
-  pub found_cut : (caches : List Cache) (id : ℤ) → cache_of (map cut_cache caches) id ≡ option_map cut_cache (cache_of caches id)
+  pub found_cut : (caches : List Cache) (id : ℤ) → cache_of (map cut_it caches) id ≡ option_map cut_it (cache_of caches id)
   found_cut [] id = refl
   found_cut (a ∷ caches) id = elim (cases_Bool (has_id id a)) [
-    | inl here ↦ cond-true (has_id id a) _ _ here ∙ sym (ap (option_map cut_cache) (cond-true (has_id id a) (Some a) (cache_of caches id) here))
+    | inl here ↦ cond-true (has_id id a) _ _ here ∙ sym (ap (option_map cut_it) (cond-true (has_id id a) (Some a) (cache_of caches id) here))
     | inr later ↦
         cond-false (has_id id a) _ _ later ∙ found_cut caches id
-        ∙ sym (ap (option_map cut_cache) (cond-false (has_id id a) (Some a) (cache_of caches id) later))
+        ∙ sym (ap (option_map cut_it) (cond-false (has_id id a) (Some a) (cache_of caches id) later))
   ]
 
-  with_rows_cut : (caches : List Cache) (id : ℤ) (rows : Rows) → map cut_cache (caches_with_rows caches id rows) ≡ caches_with_rows (map cut_cache caches) id (cut rows)
+  with_rows_cut : (caches : List Cache) (id : ℤ) (rows : Rows) → map cut_it (caches_with_rows caches id rows) ≡ caches_with_rows (map cut_it caches) id (cut rows)
   with_rows_cut [] id rows = refl
   with_rows_cut (a ∷ caches) id rows = elim (cases_Bool (has_id id a)) [
-    | inl here ↦ ap (map cut_cache) (cond-true (has_id id a) _ _ here) ∙ sym (cond-true (has_id id a) _ _ here)
+    | inl here ↦ ap (map cut_it) (cond-true (has_id id a) _ _ here) ∙ sym (cond-true (has_id id a) _ _ here)
     | inr later ↦
-        ap (map cut_cache) (cond-false (has_id id a) _ _ later) ∙ ap (λ cs. cut_cache a ∷ cs) (with_rows_cut caches id rows)
+        ap (map cut_it) (cond-false (has_id id a) _ _ later) ∙ ap (λ cs. cut_it a ∷ cs) (with_rows_cut caches id rows)
         ∙ sym (cond-false (has_id id a) _ _ later)
   ]
 
-  caches_twice : (caches : List Cache) → map cut_cache (map cut_cache caches) ≡ map cut_cache caches
+  caches_twice : (caches : List Cache) → map cut_it (map cut_it caches) ≡ map cut_it caches
   caches_twice [] = refl
   caches_twice (a ∷ caches) = ap₂ (λ (r : Rows) (cs : List Cache). record a { rows = r } ∷ cs) (cut_twice a.rows) (caches_twice caches)
 
@@ -134,17 +133,17 @@ module _ (shards shard : ℕ) where
         by None is =
             ap (λ (r : Outcome × PlainCaches). cut_to shards shard r.1) (ran_none c id f is)
             ∙ sym (caches_cut_twice c)
-            ∙ sym (ap (λ (r : Outcome × PlainCaches). cut_to shards shard r.1) (ran_none (cut_to shards shard c) id f (found_cut c.caches id ∙ ap (option_map cut_cache) is)))
+            ∙ sym (ap (λ (r : Outcome × PlainCaches). cut_to shards shard r.1) (ran_none (cut_to shards shard c) id f (found_cut c.caches id ∙ ap (option_map cut_it) is)))
         by (Some cache) is =
             let here : Rows = (f cache.rows).1 in
             let there : Rows = (f (cut cache.rows)).1 in
             let same : cut there ≡ cut here = same_cut there here (respects (cut cache.rows) cache.rows (cut_agrees cache.rows)) in
-            let caches : map cut_cache (caches_with_rows (map cut_cache c.caches) id there) ≡ map cut_cache (caches_with_rows c.caches id here) =
-            with_rows_cut (map cut_cache c.caches) id there
+            let caches : map cut_it (caches_with_rows (map cut_it c.caches) id there) ≡ map cut_it (caches_with_rows c.caches id here) =
+            with_rows_cut (map cut_it c.caches) id there
             ∙ ap₂ (λ (cs : List Cache) (r : Rows). caches_with_rows cs id r) (caches_twice c.caches) same ∙ sym (with_rows_cut c.caches id here) in
             ap (λ (r : Outcome × PlainCaches). cut_to shards shard r.1) (ran_some c id f cache is)
             ∙ sym (ap (λ (r : Outcome × PlainCaches). cut_to shards shard r.1)
-            (ran_some (cut_to shards shard c) id f (cut_cache cache) (found_cut c.caches id ∙ ap (option_map cut_cache) is))
+            (ran_some (cut_to shards shard c) id f (cut_it cache) (found_cut c.caches id ∙ ap (option_map cut_it) is))
             ∙ λ i. record { caches = caches i; registry = types_twice c.registry i; minor = c.minor })
 
     -- with the outcome the same
@@ -154,11 +153,11 @@ module _ (shards shard : ℕ) where
         by : (o : Option Cache) → cache_of c.caches id ≡ o → (ran c call_on).0 ≡ (ran (cut_to shards shard c) call_on).0
         by None is =
             ap (λ (r : Outcome × PlainCaches). r.0) (ran_none c id f is)
-            ∙ sym (ap (λ (r : Outcome × PlainCaches). r.0) (ran_none (cut_to shards shard c) id f (found_cut c.caches id ∙ ap (option_map cut_cache) is)))
+            ∙ sym (ap (λ (r : Outcome × PlainCaches). r.0) (ran_none (cut_to shards shard c) id f (found_cut c.caches id ∙ ap (option_map cut_it) is)))
         by (Some cache) is =
             ap (λ (r : Outcome × PlainCaches). r.0) (ran_some c id f cache is)
             ∙ sym (same (cut cache.rows) cache.rows (cut_agrees cache.rows))
-            ∙ sym (ap (λ (r : Outcome × PlainCaches). r.0) (ran_some (cut_to shards shard c) id f (cut_cache cache) (found_cut c.caches id ∙ ap (option_map cut_cache) is)))
+            ∙ sym (ap (λ (r : Outcome × PlainCaches). r.0) (ran_some (cut_to shards shard c) id f (cut_it cache) (found_cut c.caches id ∙ ap (option_map cut_it) is)))
 
     -- a call that leaves the rows of this shard leaves the caches as the shard has them
     pub rows_elsewhere : ((a : Rows) → Agree (f a).1 a) → cut_to shards shard (ran c call_on).1 ≡ cut_to shards shard c
@@ -167,10 +166,10 @@ module _ (shards shard : ℕ) where
         by : (o : Option Cache) → cache_of c.caches id ≡ o → cut_to shards shard (ran c call_on).1 ≡ cut_to shards shard c
         by None is = ap (λ (r : Outcome × PlainCaches). cut_to shards shard r.1) (ran_none c id f is)
         by (Some cache) is =
-            let caches : map cut_cache (caches_with_rows c.caches id (f cache.rows).1) ≡ map cut_cache c.caches =
+            let caches : map cut_it (caches_with_rows c.caches id (f cache.rows).1) ≡ map cut_it c.caches =
             with_rows_cut c.caches id (f cache.rows).1
-            ∙ ap (caches_with_rows (map cut_cache c.caches) id) (same_cut (f cache.rows).1 cache.rows (stays cache.rows))
+            ∙ ap (caches_with_rows (map cut_it c.caches) id) (same_cut (f cache.rows).1 cache.rows (stays cache.rows))
             ∙ sym (with_rows_cut c.caches id cache.rows)
-            ∙ ap (map cut_cache) (with_own c.caches id cache is) in
+            ∙ ap (map cut_it) (with_own c.caches id cache is) in
             ap (λ (r : Outcome × PlainCaches). cut_to shards shard r.1) (ran_some c id f cache is)
             ∙ λ i. record { caches = caches i; registry = types_in shard c.registry; minor = c.minor }

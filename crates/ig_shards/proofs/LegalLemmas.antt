@@ -1,7 +1,7 @@
 -- Of a legal history each shard sees a legal one.
-use Rattle.std.proofs.Common.{◌≡◌, ◌≢◌, ◌<◌, ◌⊎◌, ◌++◌, ℕ, suc, ℤ, pos, nat_eq, nat_le, Bool, true, false, cond, List, [], ◌∷◌, length, map, filter, Option, None, Some, option_map, refl, sym, ap, ap₂, ◌∙◌, subst, inl, inr, arith}
+use Rattle.std.proofs.Common.{◌≡◌, ◌≢◌, ◌<◌, ◌⊎◌, ◌++◌, ℕ, zero, suc, ℤ, pos, nat_eq, nat_le, Bool, true, false, cond, List, [], ◌∷◌, length, map, filter, Option, None, Some, option_map, refl, sym, ap, ap₂, ◌∙◌, subst, inl, inr, arith}
 use Rattle.std.proofs.lemmas.Bool.{cases_Bool, cond-true, cond-false}
-use Rattle.std.proofs.lemmas.Bool.Decides.{Decides-nat_eq}
+use Rattle.std.proofs.lemmas.Bool.Decides.{nat_tests}
 use Rattle.std.specs.Option.{option_map_or}
 use Rattle.std.specs.List.{list_all, list_any}
 use Rattle.std.specs.FinMap as finite
@@ -22,13 +22,13 @@ use Rattle.ig_caches.specs.PlainCaches.{Cache, PlainCaches, has_id, id_of, fresh
 use Rattle.ig_caches.specs.Effect.{Effect, Change, on_rows, on_all, effect, changed, at_key, created, changed_to, next_count, max_caches, asks_for_all, count_of, affinity_of, type_name, after_put_type, after_create, after_get_or_create, after_destroy}
 use Rattle.ig_caches.specs.Answered.{with_rows_at, ran, answered, after}
 use Rattle.ig_caches.specs.Legal.{Legal}
-use Rattle.ig_shards.specs.declared.touched.Touched.{Touched}
-use Rattle.ig_shards.specs.declared.touched.Touched.TheVariants as touched
+use Rattle.ig_shards.specs.declared.touch.Touched.{Touched}
+use Rattle.ig_shards.specs.declared.touch.Touched.TheVariants as touched
 use Rattle.ig_shards.specs.ShardOf.{shard_of, shard_of_key}
 use Rattle.ig_shards.specs.Touches.{touches}
-use Rattle.ig_shards.specs.LegalAt.{rows_in, types_in, cut_to, is_touched, entries_at, IsAnswerAt, LegalAt}
+use Rattle.ig_shards.specs.LegalAt.{rows_in, types_in, cut_cache, cut_to, is_touched, entries_at, IsAnswerAt, LegalAt}
 use Rattle.ig_shards.specs.Laws.{LegalAtEachShard}
-use Rattle.ig_shards.proofs.CutLemmas.{Agree, Respects, cut_cache, caches_cut_twice, agree_changed, agree_elsewhere, agree_rows, agree_without_rows, cut_agrees, same_cut, found_cut, rows_left, rows_answered, rows_elsewhere}
+use Rattle.ig_shards.proofs.CutLemmas.{Agree, Respects, caches_cut_twice, agree_changed, agree_elsewhere, agree_rows, agree_without_rows, cut_agrees, same_cut, found_cut, rows_left, rows_answered, rows_elsewhere}
 use Rattle.ig_shards.proofs.PartLemmas.{IsOnTypes, IsOnKeyIn, IsApart, apart}
 
 module _ (shards shard : ℕ) where
@@ -59,19 +59,21 @@ module _ (shards shard : ℕ) where
   added_cut name [] = refl
   added_cut name (a ∷ caches) = ap₂ (λ (k : Cache) (cs : List Cache). k ∷ cs) (sym (cut_rows_twice a)) (added_cut name caches)
 
+  seen_twice : (cs : List Cache) → map (cut_cache shards shard) cs ≡ map (cut_cache shards shard) (map (cut_cache shards shard) cs)
+  seen_twice [] = refl
+  seen_twice (k ∷ cs) = ap₂ (λ (k : Cache) (cs : List Cache). k ∷ cs) (sym (cut_rows_twice k)) (seen_twice cs)
+
+  removed_by : (id : ℤ) (a : Cache) (caches : List Cache) (b : Bool)
+      → map (cut_cache shards shard) (caches_without caches id) ≡ map (cut_cache shards shard) (caches_without (map (cut_cache shards shard) caches) id)
+      → map (cut_cache shards shard) (cond b caches (a ∷ caches_without caches id))
+      ≡ map (cut_cache shards shard) (cond b (map (cut_cache shards shard) caches) (cut_cache shards shard a ∷ caches_without (map (cut_cache shards shard) caches) id))
+  removed_by id a caches true rest = seen_twice caches
+  removed_by id a caches false rest = ap₂ (λ (k : Cache) (cs : List Cache). k ∷ cs) (sym (cut_rows_twice a)) rest
+
   removed_cut : (id : ℤ) (caches : List Cache)
       → map (cut_cache shards shard) (caches_without caches id) ≡ map (cut_cache shards shard) (caches_without (map (cut_cache shards shard) caches) id)
   removed_cut id [] = refl
-  removed_cut id (a ∷ caches) = by (has_id id a)
-    where
-      seen_twice : (cs : List Cache) → map (cut_cache shards shard) cs ≡ map (cut_cache shards shard) (map (cut_cache shards shard) cs)
-      seen_twice [] = refl
-      seen_twice (k ∷ cs) = ap₂ (λ (k : Cache) (cs : List Cache). k ∷ cs) (sym (cut_rows_twice k)) (seen_twice cs)
-
-      by : (b : Bool) → map (cut_cache shards shard) (cond b caches (a ∷ caches_without caches id))
-          ≡ map (cut_cache shards shard) (cond b (map (cut_cache shards shard) caches) (cut_cache shards shard a ∷ caches_without (map (cut_cache shards shard) caches) id))
-      by true = seen_twice caches
-      by false = ap₂ (λ (k : Cache) (cs : List Cache). k ∷ cs) (sym (cut_rows_twice a)) (removed_cut id caches)
+  removed_cut id (a ∷ caches) = removed_by id a caches (has_id id a) (removed_cut id caches)
 
   cut_length : (caches : List Cache) → length (map (cut_cache shards shard) caches) ≡ length caches
   cut_length [] = refl
@@ -84,6 +86,18 @@ module _ (shards shard : ℕ) where
       by true = refl
       by false = refl
 
+  abbrev made_seen : PlainCaches → List ℕ → Outcome × PlainCaches
+  made_seen c name = changed_to (see c) ((see c).caches ++ fresh_cache name ∷ [])
+
+  abbrev create_found : List ℕ → Option Cache → PlainCaches → Outcome × PlainCaches
+  create_found name o d = option_map_or (λ (cache : Cache). (Refused why.CacheExists, d)) o (created d name)
+
+  abbrev get_or_create_found : List ℕ → Option Cache → PlainCaches → Outcome × PlainCaches
+  get_or_create_found name o d = option_map_or (λ (cache : Cache). cond (same_name cache.name name) (Done, d) (Refused why.CacheExists, d)) o (created d name)
+
+  abbrev destroy_found : ℤ → Option Cache → PlainCaches → Outcome × PlainCaches
+  destroy_found id o d = option_map_or (λ (cache : Cache). changed_to d (caches_without d.caches id)) o (Refused why.NoCache, d)
+
   module _ (c : PlainCaches) where
     changed_seen : (caches others : List Cache) → map (cut_cache shards shard) caches ≡ map (cut_cache shards shard) others → LeavesAlike (changed_to c caches) (changed_to (see c) others)
     changed_seen caches others same = by (next_count c.minor)
@@ -94,46 +108,34 @@ module _ (shards shard : ℕ) where
         by (Some minor) = (λ i. record { caches = same i; registry = sym (types_seen_twice c.registry) i; minor = minor }, refl)
 
     created_seen : (name : List ℕ) → LeavesAlike (created c name) (created (see c) name)
-    created_seen name = subst (λ n. LeavesAlike (created c name) (cond (nat_le max_caches n) (Refused why.TooManyCaches, see c) made)) (sym (cut_length c.caches)) (by (nat_le max_caches (length c.caches)))
+    created_seen name = subst (λ n. LeavesAlike (created c name) (cond (nat_le max_caches n) (Refused why.TooManyCaches, see c) (made_seen c name))) (sym (cut_length c.caches)) (by (nat_le max_caches (length c.caches)))
       where
-        abbrev made : Outcome × PlainCaches
-        made = changed_to (see c) ((see c).caches ++ fresh_cache name ∷ [])
-
-        by : (b : Bool) → LeavesAlike (cond b (Refused why.TooManyCaches, c) (changed_to c (c.caches ++ fresh_cache name ∷ []))) (cond b (Refused why.TooManyCaches, see c) made)
+        by : (b : Bool) → LeavesAlike (cond b (Refused why.TooManyCaches, c) (changed_to c (c.caches ++ fresh_cache name ∷ []))) (cond b (Refused why.TooManyCaches, see c) (made_seen c name))
         by true = (sym (caches_cut_twice shards shard c), refl)
         by false = changed_seen (c.caches ++ fresh_cache name ∷ []) ((see c).caches ++ fresh_cache name ∷ []) (added_cut name c.caches)
 
     create_seen : (name : List ℕ) → LeavesAlike (after_create name c) (after_create name (see c))
-    create_seen name = subst (λ o. LeavesAlike (after_create name c) (found o (see c))) (sym (found_cut shards shard c.caches (id_of name))) (by (cache_of c.caches (id_of name)))
+    create_seen name = subst (λ o. LeavesAlike (after_create name c) (create_found name o (see c))) (sym (found_cut shards shard c.caches (id_of name))) (by (cache_of c.caches (id_of name)))
       where
-        abbrev found : Option Cache → PlainCaches → Outcome × PlainCaches
-        found o d = option_map_or (λ (cache : Cache). (Refused why.CacheExists, d)) o (created d name)
-
-        by : (o : Option Cache) → LeavesAlike (found o c) (found (option_map (cut_cache shards shard) o) (see c))
+        by : (o : Option Cache) → LeavesAlike (create_found name o c) (create_found name (option_map (cut_cache shards shard) o) (see c))
         by None = created_seen name
         by (Some cache) = (sym (caches_cut_twice shards shard c), refl)
 
     get_or_create_seen : (name : List ℕ) → LeavesAlike (after_get_or_create name c) (after_get_or_create name (see c))
-    get_or_create_seen name = subst (λ o. LeavesAlike (after_get_or_create name c) (found o (see c))) (sym (found_cut shards shard c.caches (id_of name))) (by (cache_of c.caches (id_of name)))
+    get_or_create_seen name = subst (λ o. LeavesAlike (after_get_or_create name c) (get_or_create_found name o (see c))) (sym (found_cut shards shard c.caches (id_of name))) (by (cache_of c.caches (id_of name)))
       where
-        abbrev found : Option Cache → PlainCaches → Outcome × PlainCaches
-        found o d = option_map_or (λ (cache : Cache). cond (same_name cache.name name) (Done, d) (Refused why.CacheExists, d)) o (created d name)
-
         stands : (b : Bool) → LeavesAlike (cond b (Done, c) (Refused why.CacheExists, c)) (cond b (Done, see c) (Refused why.CacheExists, see c))
         stands true = (sym (caches_cut_twice shards shard c), refl)
         stands false = (sym (caches_cut_twice shards shard c), refl)
 
-        by : (o : Option Cache) → LeavesAlike (found o c) (found (option_map (cut_cache shards shard) o) (see c))
+        by : (o : Option Cache) → LeavesAlike (get_or_create_found name o c) (get_or_create_found name (option_map (cut_cache shards shard) o) (see c))
         by None = created_seen name
         by (Some cache) = stands (same_name cache.name name)
 
     destroy_seen : (id : ℤ) → LeavesAlike (after_destroy id c) (after_destroy id (see c))
-    destroy_seen id = subst (λ o. LeavesAlike (after_destroy id c) (found o (see c))) (sym (found_cut shards shard c.caches id)) (by (cache_of c.caches id))
+    destroy_seen id = subst (λ o. LeavesAlike (after_destroy id c) (destroy_found id o (see c))) (sym (found_cut shards shard c.caches id)) (by (cache_of c.caches id))
       where
-        abbrev found : Option Cache → PlainCaches → Outcome × PlainCaches
-        found o d = option_map_or (λ (cache : Cache). changed_to d (caches_without d.caches id)) o (Refused why.NoCache, d)
-
-        by : (o : Option Cache) → LeavesAlike (found o c) (found (option_map (cut_cache shards shard) o) (see c))
+        by : (o : Option Cache) → LeavesAlike (destroy_found id o c) (destroy_found id (option_map (cut_cache shards shard) o) (see c))
         by None = (sym (caches_cut_twice shards shard c), refl)
         by (Some cache) = changed_seen (caches_without c.caches id) (caches_without (see c).caches id) (removed_cut id c.caches)
 
@@ -182,11 +184,10 @@ module _ (shards shard : ℕ) where
       ∙ λ i. record { caches = map (cut_cache shards shard) (it.caches c i); registry = (types (it.does c).1.registry ∙ sym (types c.registry)) i; minor = it.counts c i }
     where
       turned : (n : ℕ) → nat_eq 0 n ≡ false → nat_eq n 0 ≡ false
-      turned zero e = e
-      turned (suc n) e = refl
+      turned n e = grind (arith, nat_tests)
 
   one_other : (a b : ℕ) → nat_eq a b ≡ true → a ≡ b
-  one_other a b e = (Decides-nat_eq a b).0 e
+  one_other a b e = grind (arith, nat_tests)
 
   -- a call that touches this shard alone is answered of what the shard has
   one_seen : (ask : Call) (c : PlainCaches) (other : ℕ) → IsApart ask shards other → nat_eq other shard ≡ true
@@ -214,34 +215,34 @@ module _ (shards shard : ℕ) where
   same_answer r s outcome minor = λ i. record { minor = minor i; outcome = outcome i }
 
   -- ---- histories
+  abbrev seen_entry : PlainCaches → Entry Call Answer → List (Entry Call Answer) → Touched → Type 0
+  seen_entry c entry entries t = LegalAt shards shard (see c) (cond (is_touched t shard) (entry ∷ entries_at shards shard entries) (entries_at shards shard entries))
+
+  module _ (c : PlainCaches) (entry : Entry Call Answer) (entries : List (Entry Call Answer)) (got : entry.got ≡ answered c entry.ask)
+      (rest : LegalAt shards shard (see (after c entry.ask)) (entries_at shards shard entries)) where
+    from_here : (t : Touched) → touches entry.ask shards ≡ t → IsAnswerAt t (see c) entry → see (after c entry.ask) ≡ see (after (see c) entry.ask)
+        → LegalAt shards shard (see c) (entry ∷ entries_at shards shard entries)
+    from_here t is answer leaves =
+        (subst (λ u. IsAnswerAt u (see c) entry) (sym is) answer, subst (λ d. LegalAt shards shard d (entries_at shards shard entries)) leaves rest)
+
+    at_one : (other : ℕ) → touches entry.ask shards ≡ touched.One other → (b : Bool) → nat_eq other shard ≡ b
+        → LegalAt shards shard (see c) (cond b (entry ∷ entries_at shards shard entries) (entries_at shards shard entries))
+    at_one other is true here =
+        let seen = one_seen entry.ask c other (apart entry.ask shards other is) here in
+        from_here (touched.One other) is (got ∙ same_answer (ran c (effect entry.ask)) (ran (see c) (effect entry.ask)) seen.1 seen.0.1) seen.0.0
+    at_one other is false out =
+        subst (λ d. LegalAt shards shard d (entries_at shards shard entries)) (one_unseen entry.ask c other (apart entry.ask shards other is) out) rest
+
+    legal_step : (t : Touched) → touches entry.ask shards ≡ t → LegalAt shards shard (see c) (entries_at shards shard (entry ∷ entries))
+    legal_step (touched.One other) is = subst (seen_entry c entry entries) (sym is) (at_one other is (nat_eq other shard) refl)
+    legal_step touched.All is =
+        let seen = all_seen entry.ask c is in
+        subst (seen_entry c entry entries) (sym is) (from_here touched.All is (ap (λ (a : Answer). a.minor) got ∙ seen.1) seen.0)
+
   legal_at : (entries : List (Entry Call Answer)) (c : PlainCaches) → Legal c entries → LegalAt shards shard (see c) (entries_at shards shard entries)
   legal_at [] c legal = tt
-  legal_at (entry ∷ entries) c legal = by (touches entry.ask shards) refl
-    where
-      rest : LegalAt shards shard (see (after c entry.ask)) (entries_at shards shard entries)
-      rest = legal_at entries (after c entry.ask) legal.1
-
-      abbrev Goal : Touched → Type 0
-      Goal t = LegalAt shards shard (see c) (cond (is_touched t shard) (entry ∷ entries_at shards shard entries) (entries_at shards shard entries))
-
-      from_here : (t : Touched) → touches entry.ask shards ≡ t → IsAnswerAt t (see c) entry → see (after c entry.ask) ≡ see (after (see c) entry.ask)
-          → LegalAt shards shard (see c) (entry ∷ entries_at shards shard entries)
-      from_here t is answer leaves =
-          (subst (λ u. IsAnswerAt u (see c) entry) (sym is) answer, subst (λ d. LegalAt shards shard d (entries_at shards shard entries)) leaves rest)
-
-      at_one : (other : ℕ) → touches entry.ask shards ≡ touched.One other → (b : Bool) → nat_eq other shard ≡ b
-          → LegalAt shards shard (see c) (cond b (entry ∷ entries_at shards shard entries) (entries_at shards shard entries))
-      at_one other is true here =
-          let seen = one_seen entry.ask c other (apart entry.ask shards other is) here in
-          from_here (touched.One other) is (legal.0 ∙ same_answer (ran c (effect entry.ask)) (ran (see c) (effect entry.ask)) seen.1 seen.0.1) seen.0.0
-      at_one other is false out =
-          subst (λ d. LegalAt shards shard d (entries_at shards shard entries)) (one_unseen entry.ask c other (apart entry.ask shards other is) out) rest
-
-      by : (t : Touched) → touches entry.ask shards ≡ t → LegalAt shards shard (see c) (entries_at shards shard (entry ∷ entries))
-      by (touched.One other) is = subst Goal (sym is) (at_one other is (nat_eq other shard) refl)
-      by touched.All is =
-          let seen = all_seen entry.ask c is in
-          subst Goal (sym is) (from_here touched.All is (ap (λ (a : Answer). a.minor) legal.0 ∙ seen.1) seen.0)
+  legal_at (entry ∷ entries) c legal =
+      legal_step c entry entries legal.0 (legal_at entries (after c entry.ask) legal.1) (touches entry.ask shards) refl
 
 pub legal_at_each : LegalAtEachShard
 legal_at_each shards shard c entries within legal = legal_at shards shard entries c legal

@@ -1,5 +1,5 @@
 -- Shards together: a call that touches one of them needs this one alone.
-use Rattle.std.proofs.Common.{◌≡◌, ◌≢◌, ◌<◌, ◌+◌, ◌⊎◌, ◌&&◌, ◌||◌, ℕ, suc, ℤ, pos, Bool, true, false, cond, List, [], ◌∷◌, ◌++◌, length, take, drop, get_or, set, map, All, Option, None, Some, is_some, refl, sym, ap, ap₂, ◌∙◌, subst, inl, inr, arith}
+use Rattle.std.proofs.Common.{◌≡◌, ◌≢◌, ◌<◌, ◌+◌, ◌⊎◌, ◌&&◌, ◌||◌, ℕ, zero, suc, ℤ, pos, Bool, true, false, cond, List, [], ◌∷◌, ◌++◌, length, take, drop, get_or, set, map, All, Option, None, Some, is_some, refl, sym, ap, ap₂, ◌∙◌, subst, inl, inr, arith}
 use Rattle.std.proofs.lemmas.List.Elements.{All-nil, All-cons, All-head, All-tail}
 use Rattle.std.specs.Option.{is_none, option_map_or}
 use Rattle.std.specs.List.{list_all, list_any}
@@ -22,13 +22,13 @@ use Rattle.ig_caches.specs.Effect.{Effect, Change, on_rows, on_all, keep, store,
 use Rattle.ig_caches.specs.Answered.{ran, answered, after}
 use Rattle.ig_caches.specs.Laws.{IsOnKey}
 use Rattle.ig_caches.proofs.KeyLemmas.{ran_none, ran_some}
-use Rattle.ig_shards.specs.declared.touched.Touched.{Touched}
-use Rattle.ig_shards.specs.declared.touched.Touched.TheVariants.{One} as touched
+use Rattle.ig_shards.specs.declared.touch.Touched.{Touched}
+use Rattle.ig_shards.specs.declared.touch.Touched.TheVariants as touched
 use Rattle.ig_shards.specs.ShardOf.{shard_of, shard_of_key}
 use Rattle.ig_shards.specs.Touches.{touches}
 use Rattle.ig_shards.specs.Spread.{IsPlaced}
-use Rattle.ig_shards.specs.LegalAt.{cut_to}
-use Rattle.ig_shards.proofs.CutLemmas.{cut_cache, caches_cut_twice}
+use Rattle.ig_shards.specs.LegalAt.{cut_cache, cut_to}
+use Rattle.ig_shards.proofs.CutLemmas.{caches_cut_twice}
 use Rattle.ig_shards.specs.Parts.{Part, beside, both, together, heads, AreAlike, IsPart, AreNumbered, AllAlike, AreAll}
 use Rattle.ig_shards.proofs.SpreadLemmas.{not_less, less_next, not_first, none_elsewhere, placed_changed}
 use Rattle.ig_shards.proofs.BesideLemmas.{head, beside_none, beside_heads, HaveNone, none_in_both, all_found, all_with_rows, heads_with_rows, key_first, key_second}
@@ -309,13 +309,12 @@ key_keeps : (shards shard : ℕ) (c : PlainCaches) (id : ℤ) (key : Value) (f :
     → All (λ (cache : Cache). IsPlaced shards shard cache.rows) (ran c (on_rows id (at_key key f))).1.caches × AreAlike c (ran c (on_rows id (at_key key f))).1
 key_keeps shards shard c id key f there placed = by (cache_of c.caches id) refl
   where
-    P : Outcome × PlainCaches → Type 0
-    P r = All (λ (cache : Cache). IsPlaced shards shard cache.rows) r.1.caches × AreAlike c r.1
-
     by : (o : Option Cache) → cache_of c.caches id ≡ o → All (λ (cache : Cache). IsPlaced shards shard cache.rows) (ran c (on_rows id (at_key key f))).1.caches × AreAlike c (ran c (on_rows id (at_key key f))).1
-    unfolding P
-    by None is = subst P (sym (ran_none c id (at_key key f) is)) (placed, record { names = refl; counts = refl })
+    by None is =
+        let P : Outcome × PlainCaches → Type 0 = λ r. All (λ (cache : Cache). IsPlaced shards shard cache.rows) r.1.caches × AreAlike c r.1 in
+        subst P (sym (ran_none c id (at_key key f) is)) (placed, record { names = refl; counts = refl })
     by (Some cache) is =
+        let P : Outcome × PlainCaches → Type 0 = λ r. All (λ (cache : Cache). IsPlaced shards shard cache.rows) r.1.caches × AreAlike c r.1 in
         let rows : Rows = (at_key key f cache.rows).1 in
         let it : IsPlaced shards shard rows =
         placed_changed shards shard cache.rows key (f _).1 there (all_found (λ (k : Cache). IsPlaced shards shard k.rows) c.caches id cache placed is) in

@@ -10,7 +10,7 @@ use Rattle.ig_caches.specs.PlainCaches.{PlainCaches}
 use Rattle.ig_caches.specs.Effect.{effect}
 use Rattle.ig_caches.specs.Answered.{ran, answered, after}
 use Rattle.ig_caches.specs.RunsOn.{RunsOn}
-use Rattle.ig_shards.specs.declared.touched.Touched.TheVariants as touched
+use Rattle.ig_shards.specs.declared.touch.Touched.TheVariants as touched
 use Rattle.ig_shards.specs.Touches.{touches}
 use Rattle.ig_shards.specs.Parts.{Part, both, together, heads, AreAlike, IsPart, AreNumbered, AllAlike, AreAll}
 use Rattle.ig_shards.specs.Laws.{NeedsItsShardAlone}
@@ -85,36 +85,36 @@ number_of shards i parts d numbered within =
 
 module _ (shards i : ℕ) (parts : List Part) (d new : Part) (call : Call) (all : AreAll shards parts) (within : i < length parts) (touches_it : touches call shards ≡ touched.One i)
     (number : new.number ≡ (get_or parts i d).number) (count : new.shards ≡ (get_or parts i d).shards) where
-  abbrev part : Part
-  part = get_or parts i d
+  abbrev this : Part
+  this = get_or parts i d
 
-  abbrev before : List Part
-  before = take i parts
+  abbrev lower : List Part
+  lower = take i parts
 
-  abbrev later : List Part
-  later = drop (suc i) parts
+  abbrev higher : List Part
+  higher = drop (suc i) parts
 
-  split : AreAll shards (before ++ part ∷ later)
+  split : AreAll shards (lower ++ this ∷ higher)
   split = subst (AreAll shards) (sym (split_parts parts i d within)) all
 
-  touches_part : touches call shards ≡ touched.One part.number
+  touches_part : touches call shards ≡ touched.One this.number
   touches_part = touches_it ∙ ap (λ n. touched.One n) (sym (number_of shards i parts d all.numbered within))
 
   -- a call that runs on its shard runs on all
-  pub runs_alone : (result : Result Answer (NoRoom Call)) → RunsOn call part.caches result new.caches
+  pub runs_alone : (result : Result Answer (NoRoom Call)) → RunsOn call this.caches result new.caches
       → RunsOn call (together parts) result (together (set parts i new)) × AreAll shards (set parts i new)
   unfolding left_part
   runs_alone (Ok answer) runs =
-      let left : Part = left_part shards before later part call split touches_part in
+      let left : Part = left_part shards lower higher this call split touches_part in
       let is : new ≡ left = λ k. record { number = number k; shards = count k; caches = runs.1 k } in
-      let put : set parts i left ≡ before ++ left ∷ later = split_set parts i left within in
-      let whole : before ++ part ∷ later ≡ parts = split_parts parts i d within in
-      let stays : IsPart left × AreAlike part.caches left.caches = stays_part shards before later part call split touches_part in
-      let alike : AreAlike all.like part.caches = alike_at all.like before later part (subst (AllAlike all.like) (sym whole) all.alike) in
-      let answers : answered (together parts) call ≡ answered part.caches call =
-      ap (λ ps. answered (together ps) call) (sym whole) ∙ answered_alone shards before later part call split touches_part in
+      let put : set parts i left ≡ lower ++ left ∷ higher = split_set parts i left within in
+      let whole : lower ++ this ∷ higher ≡ parts = split_parts parts i d within in
+      let stays : IsPart left × AreAlike this.caches left.caches = stays_part shards lower higher this call split touches_part in
+      let alike : AreAlike all.like this.caches = alike_at all.like lower higher this (subst (AllAlike all.like) (sym whole) all.alike) in
+      let answers : answered (together parts) call ≡ answered this.caches call =
+      ap (λ ps. answered (together ps) call) (sym whole) ∙ answered_alone shards lower higher this call split touches_part in
       let leaves : after (together parts) call ≡ together (set parts i new) =
-      ap (λ ps. after (together ps) call) (sym whole) ∙ left_alone shards before later part call split touches_part
+      ap (λ ps. after (together ps) call) (sym whole) ∙ left_alone shards lower higher this call split touches_part
       ∙ ap together (sym put) ∙ ap (λ p. together (set parts i p)) (sym is) in
       (
         (runs.0 ∙ sym answers, sym leaves),
@@ -126,9 +126,10 @@ module _ (shards i : ℕ) (parts : List Part) (d new : Part) (call : Call) (all 
         }),
       )
   runs_alone (Err e) runs =
-      let same : set parts i new ≡ parts = ap (set parts i) (same_part part new number count runs.1) ∙ set-get_or parts i d in
+      let same : set parts i new ≡ parts = ap (set parts i) (same_part this new number count runs.1) ∙ set-get_or parts i d in
       ((runs.0, ap together same), subst (AreAll shards) (sym same) all)
 
 pub needs_alone : NeedsItsShardAlone
+unfolding left_part
 needs_alone shards before later part call all touches_it =
     (answered_alone shards before later part call all touches_it, left_alone shards before later part call all touches_it)

@@ -1,8 +1,9 @@
 -- Rows that are spread over shards, as the rows of all.
-use Rattle.std.proofs.Common.{◌≡◌, ◌<◌, ◌≤◌, ◌⊎◌, ◌+◌, T, ◌&&◌, sum_by, All, ℕ, suc, Bool, true, false, cond, List, [], ◌∷◌, ◌++◌, length, get_or, set, Option, None, Some, refl, sym, ap, ap₂, ◌∙◌, subst, inl, inr, arith, option_map, is_some}
+use Rattle.std.proofs.Common.{◌≡◌, ◌<◌, ◌≤◌, ◌⊎◌, ◌+◌, T, ◌&&◌, sum_by, All, ℕ, zero, suc, Bool, true, false, cond, List, [], ◌∷◌, ◌++◌, length, get_or, set, Option, None, Some, refl, sym, ap, ap₂, ◌∙◌, subst, inl, inr, arith, option_map, is_some}
 use Rattle.std.proofs.lemmas.Bool.{cases_Bool, cond-true, cond-false}
 use Rattle.std.specs.Cmp.Lexicographic.{nat_list_cmp_total}
 use Rattle.std.proofs.lemmas.List.Elements.{All-head, All-tail}
+use Rattle.std.proofs.lemmas.List.Sums.{sum_by-cons}
 use Rattle.std.specs.declared.cmp.Ordering.{Ordering}
 use Rattle.std.specs.declared.cmp.Ordering.TheVariants.{Less, Equal, Greater}
 use Rattle.std.specs.Ordering.{is_eq, is_lt}
@@ -255,14 +256,16 @@ nat_cases (suc a) (suc b) = elim (nat_cases a b) [
   | inr more ↦ inr (omega (arith, more))
 ]
 
+not_below : (o : Ordering) → T (is_lt o) → is_eq o ≡ false
+not_below Less below = refl
+not_below Equal below = absurd below
+not_below Greater below = absurd below
+
 no_row : (q : List ℕ) (es : List (List ℕ × Pair)) → T (below_all by_bytes q es) → finite.find by_bytes q es ≡ None
 no_row q [] below = refl
-no_row q (e ∷ es) below = at (by_bytes q e.0) refl
-  where
-    at : (o : Ordering) → by_bytes q e.0 ≡ o → finite.find by_bytes q (e ∷ es) ≡ None
-    at Less is = cond-false (ties q e.0) (Some e.1) (finite.find by_bytes q es) (ap is_eq is) ∙ no_row q es (both_true (is_lt (by_bytes q e.0)) (below_all by_bytes q es) below).1
-    at Equal is = absurd (subst (λ (o : Ordering). T (is_lt o)) is (both_true (is_lt (by_bytes q e.0)) (below_all by_bytes q es) below).0)
-    at Greater is = absurd (subst (λ (o : Ordering). T (is_lt o)) is (both_true (is_lt (by_bytes q e.0)) (below_all by_bytes q es) below).0)
+no_row q (e ∷ es) below =
+    let halves : T (is_lt (by_bytes q e.0)) × T (below_all by_bytes q es) = both_true (is_lt (by_bytes q e.0)) (below_all by_bytes q es) below in
+    cond-false (ties q e.0) (Some e.1) (finite.find by_bytes q es) (not_below (by_bytes q e.0) halves.0) ∙ no_row q es halves.1
 
 -- rows of two that are apart
 len_after : (xs ys : List (List ℕ × Pair)) → T (finite.is_sorted by_bytes xs) → ((q : List ℕ) → (finite.find by_bytes q xs ≡ None) ⊎ (finite.find by_bytes q ys ≡ None))
@@ -320,6 +323,7 @@ len_union shards next [] spread = finite.len-empty by_bytes Pair
 len_union shards next (rows ∷ others) spread =
     len_either rows (union others) (later_apart shards next rows others spread.0 spread.1)
     ∙ ap (λ n. finite.len rows + n) (len_union shards (suc next) others spread.1)
+    ∙ sym (sum_by-cons finite.len rows others)
 
 -- shards without rows
 pub union_none : (all : List Rows) → All (λ (rows : Rows). rows ≡ finite.empty) all → union all ≡ finite.empty

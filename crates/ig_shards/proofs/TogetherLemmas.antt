@@ -1,5 +1,5 @@
 -- Shards together: calls that need all of them.
-use Rattle.std.proofs.Common.{◌≡◌, ◌≢◌, ◌<◌, ◌+◌, ◌++◌, ℕ, suc, ℤ, pos, Bool, true, false, nat_le, cond, List, [], ◌∷◌, length, take, get_or, set, map, All, Option, None, Some, refl, sym, ap, ap₂, ◌∙◌, subst, inl, inr, arith}
+use Rattle.std.proofs.Common.{◌≡◌, ◌≢◌, ◌<◌, ◌+◌, ◌++◌, ℕ, zero, suc, ℤ, pos, Bool, true, false, nat_le, cond, List, [], ◌∷◌, length, take, get_or, set, map, All, Option, None, Some, refl, sym, ap, ap₂, ◌∙◌, subst, inl, inr, arith}
 use Rattle.std.proofs.lemmas.Bool.{cases_Bool, cond-true, cond-false}
 use Rattle.std.proofs.lemmas.List.Elements.{All-nil, All-cons, All-head, All-tail}
 use Rattle.std.proofs.Math.Seq.{take-nil}
@@ -224,44 +224,38 @@ all_taken (part ∷ parts) id (r ∷ rows) none long =
     ap₂ (λ (r : Rows) (rs : List Rows). r ∷ rs) (ap (rows_at part.caches.caches id) (All-head P r rows none)) (all_taken parts id rows (All-tail P r rows none) (omega (arith, long)))
 
 -- ---- one more cache in all shards, and one less
-both_created : (c d : PlainCaches) (name : List ℕ) → AreAlike c d → created (both c d) name ≡ ((created c name).0, both (created c name).1 (created d name).1)
-both_created c d name alike =
-    ap (λ n. cond (nat_le max_caches n) (Refused why.TooManyCaches, both c d) (changed_to (both c d) ((both c d).caches ++ fresh_cache name ∷ []))) (length_both c.caches d.caches)
-    ∙ by (nat_le max_caches (length c.caches)) refl
-  where
-    length_both : (caches others : List Cache) → length (beside caches others) ≡ length caches
-    length_both [] others = refl
-    length_both (a ∷ caches) [] = refl
-    length_both (a ∷ caches) (b ∷ others) = ap suc (length_both caches others)
+module _ (name : List ℕ) where
+  abbrev made : PlainCaches → Bool → Outcome × PlainCaches
+  made e b = cond b (Refused why.TooManyCaches, e) (changed_to e (e.caches ++ fresh_cache name ∷ []))
 
-    same_length : length d.caches ≡ length c.caches
-    same_length = by_heads c.caches d.caches alike.names
-      where
-        by_heads : (caches others : List Cache) → map head caches ≡ map head others → length others ≡ length caches
-        by_heads [] [] same = refl
-        by_heads [] (b ∷ others) same = absurd (cc)
-        by_heads (a ∷ caches) [] same = absurd (cc)
-        by_heads (a ∷ caches) (b ∷ others) same = ap suc (by_heads caches others (same_rest a b caches others same))
+  abbrev counted : PlainCaches → Option ℤ → Outcome × PlainCaches
+  counted e o = option_map_or (λ (minor : ℤ). (Done, record e { caches = e.caches ++ fresh_cache name ∷ []; minor = minor })) o (Refused why.TooManyChanges, e)
 
-    abbrev made : PlainCaches → ℕ → Bool → Outcome × PlainCaches
-    made e n b = cond b (Refused why.TooManyCaches, e) (changed_to e (e.caches ++ fresh_cache name ∷ []))
+  length_both : (caches others : List Cache) → length (beside caches others) ≡ length caches
+  length_both [] others = refl
+  length_both (a ∷ caches) [] = refl
+  length_both (a ∷ caches) (b ∷ others) = ap suc (length_both caches others)
 
-    abbrev counted : PlainCaches → List Cache → Option ℤ → Outcome × PlainCaches
-    counted e caches o = option_map_or (λ (minor : ℤ). (Done, record e { caches = caches; minor = minor })) o (Refused why.TooManyChanges, e)
+  length_alike : (caches others : List Cache) → map head caches ≡ map head others → length others ≡ length caches
+  length_alike [] [] same = refl
+  length_alike [] (b ∷ others) same = absurd (cc)
+  length_alike (a ∷ caches) [] same = absurd (cc)
+  length_alike (a ∷ caches) (b ∷ others) same = ap suc (length_alike caches others (same_rest a b caches others same))
 
-    count : (o : Option ℤ) → counted (both c d) ((both c d).caches ++ fresh_cache name ∷ []) o
-        ≡ ((counted c (c.caches ++ fresh_cache name ∷ []) o).0, both (counted c (c.caches ++ fresh_cache name ∷ []) o).1 (counted d (d.caches ++ fresh_cache name ∷ []) o).1)
-    count None = refl
-    count (Some minor) = ap (λ (cs : List Cache). (Done, record c { caches = cs; minor = minor })) (sym (added_to_both name c.caches d.caches alike.names))
+  module _ (c d : PlainCaches) (alike : AreAlike c d) where
+    counted_both : (o : Option ℤ) → counted (both c d) o ≡ ((counted c o).0, both (counted c o).1 (counted d o).1)
+    counted_both None = refl
+    counted_both (Some minor) = ap (λ (cs : List Cache). (Done, record c { caches = cs; minor = minor })) (sym (added_to_both name c.caches d.caches alike.names))
 
-    by : (b : Bool) → nat_le max_caches (length c.caches) ≡ b → made (both c d) 0 b ≡ ((created c name).0, both (created c name).1 (created d name).1)
-    by b is =
-        all_by b
-        ∙ ap₂ (λ (r s : Outcome × PlainCaches). (r.0, both r.1 s.1)) (ap (made c 0) (sym is)) (ap (made d 0) (sym (ap (nat_le max_caches) same_length ∙ is)))
-      where
-        all_by : (b : Bool) → made (both c d) 0 b ≡ ((made c 0 b).0, both (made c 0 b).1 (made d 0 b).1)
-        all_by true = refl
-        all_by false =
-            count (next_count c.minor)
-            ∙ ap (λ (o : Option ℤ). ((counted c (c.caches ++ fresh_cache name ∷ []) (next_count c.minor)).0,
-            both (counted c (c.caches ++ fresh_cache name ∷ []) (next_count c.minor)).1 (counted d (d.caches ++ fresh_cache name ∷ []) o).1)) (ap next_count alike.counts)
+    made_both : (b : Bool) → made (both c d) b ≡ ((made c b).0, both (made c b).1 (made d b).1)
+    made_both true = refl
+    made_both false =
+        counted_both (next_count c.minor)
+        ∙ ap (λ (o : Option ℤ). ((counted c (next_count c.minor)).0, both (counted c (next_count c.minor)).1 (counted d o).1)) (ap next_count alike.counts)
+
+    -- a creation in two is one in each
+    pub created_both : created (both c d) name ≡ ((created c name).0, both (created c name).1 (created d name).1)
+    created_both =
+        ap (λ n. made (both c d) (nat_le max_caches n)) (length_both c.caches d.caches)
+        ∙ made_both (nat_le max_caches (length c.caches))
+        ∙ ap (λ n. ((created c name).0, both (created c name).1 (made d (nat_le max_caches n)).1)) (sym (length_alike c.caches d.caches alike.names))

@@ -6,7 +6,7 @@ use Rattle.ig_caches.specs.declared.answer.Answer.{Answer}
 use Rattle.ig_caches.specs.PlainCaches.{PlainCaches, fresh_caches}
 use Rattle.ig_caches.specs.Answered.{answered, after}
 use Rattle.ig_caches.specs.Legal.{Legal}
-use Rattle.ig_shards.specs.declared.touched.Touched.TheVariants.{One}
+use Rattle.ig_shards.specs.declared.touch.Touched.TheVariants.{One}
 use Rattle.ig_shards.specs.Touches.{touches}
 use Rattle.ig_shards.specs.Parts.{Part, AreAll, together}
 use Rattle.ig_shards.specs.LegalAt.{cut_to, entries_at, LegalAt}

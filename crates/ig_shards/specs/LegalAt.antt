@@ -8,8 +8,8 @@ use Rattle.ig_caches.specs.declared.answer.Answer.{Answer}
 use Rattle.ig_caches.specs.Rows.{Rows}
 use Rattle.ig_caches.specs.PlainCaches.{Cache, PlainCaches}
 use Rattle.ig_caches.specs.Answered.{answered, after}
-use Rattle.ig_shards.specs.declared.touched.Touched.{Touched}
-use Rattle.ig_shards.specs.declared.touched.Touched.TheVariants.{One, All}
+use Rattle.ig_shards.specs.declared.touch.Touched.{Touched}
+use Rattle.ig_shards.specs.declared.touch.Touched.TheVariants.{One, All}
 use Rattle.ig_shards.specs.Touches.{touches}
 use Rattle.ig_shards.specs.ShardOf.{shard_of}
 
@@ -21,10 +21,14 @@ rows_in shards shard rows = finite.retain_keys rows (λ form. nat_eq (shard_of s
 abbrev pub types_in : ℕ → Registered → Registered
 types_in shard registry = if nat_eq shard 0 then registry else empty_registry
 
+-- a cache with those of its rows that lie in the shard
+abbrev pub cut_cache : ℕ → ℕ → Cache → Cache
+cut_cache shards shard cache = record cache { rows = rows_in shards shard cache.rows }
+
 -- the caches as a shard has them: all names and the count, and of rows and types those that lie in it
 abbrev pub cut_to : ℕ → ℕ → PlainCaches → PlainCaches
 cut_to shards shard c = record {
-  caches = map (λ cache. record cache { rows = rows_in shards shard cache.rows }) c.caches;
+  caches = map (cut_cache shards shard) c.caches;
   registry = types_in shard c.registry;
   minor = c.minor;
 }

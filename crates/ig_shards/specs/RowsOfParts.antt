@@ -22,6 +22,10 @@ rows_or [] id rows = rows
 rows_or (part ∷ parts) id [] = []
 rows_or (part ∷ parts) id (none ∷ rows) = rows_at part.caches.caches id none ∷ rows_or parts id rows
 
+-- the shard with one more cache of this name
+abbrev pub created_in : List ℕ → Part → Part
+created_in name part = record part { caches = (created part.caches name).1 }
+
 -- the shards, each with one more cache of this name
 abbrev pub created_in_parts : List Part → List ℕ → List Part
-created_in_parts parts name = map (λ part. record part { caches = (created part.caches name).1 }) parts
+created_in_parts parts name = map (created_in name) parts

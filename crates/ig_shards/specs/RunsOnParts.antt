@@ -1,8 +1,8 @@
 -- On which shards a call runs.
 use Rattle.std.specs.Prelude.{◌≡◌, ℕ, List, [], ◌∷◌}
 use Rattle.ig_caches.specs.declared.call.Call.{Call}
-use Rattle.ig_shards.specs.declared.touched.Touched.{Touched}
-use Rattle.ig_shards.specs.declared.touched.Touched.TheVariants.{One, All}
+use Rattle.ig_shards.specs.declared.touch.Touched.{Touched}
+use Rattle.ig_shards.specs.declared.touch.Touched.TheVariants.{One, All}
 use Rattle.ig_shards.specs.Touches.{touches}
 use Rattle.ig_shards.specs.Parts.{Part, IsPart, AreAll}
 

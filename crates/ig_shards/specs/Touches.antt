@@ -2,8 +2,8 @@
 use Rattle.std.specs.Prelude.{ℕ}
 use Rattle.ig_caches.specs.declared.call.Call.{Call}
 use Rattle.ig_caches.specs.declared.call.Call.TheVariants.{Get, GetAndRemove, ContainsKey, ClearKey, RemoveKey, Put, PutIfAbsent, GetAndPut, GetAndReplace, GetAndPutIfAbsent, Replace, ReplaceIfEquals, RemoveIfEquals, TypeName, SetTypeName, TypeOf, PutType, Affinity}
-use Rattle.ig_shards.specs.declared.touched.Touched.{Touched}
-use Rattle.ig_shards.specs.declared.touched.Touched.TheVariants.{One, All}
+use Rattle.ig_shards.specs.declared.touch.Touched.{Touched}
+use Rattle.ig_shards.specs.declared.touch.Touched.TheVariants.{One, All}
 use Rattle.ig_shards.specs.ShardOf.{shard_of_key}
 
 -- a call on one key touches the shard of this key, a call on types the first shard, and any other call all shards

@@ -6,22 +6,22 @@
 
 mod laws;
 mod merge;
-mod run_on;
-mod shard_of;
+mod place;
+mod run;
 mod shard_rows;
 mod shards;
 mod spread_calls;
 mod spread_rows;
 mod start;
-mod touched;
+mod touch;
 mod touching;
 mod whole;
 
-pub use run_on::run_on;
-pub use shard_of::shard_of;
+pub use run::run_on;
+pub use place::shard_of;
 pub use shard_rows::ShardRows;
 pub use shards::Shards;
-pub use touched::Touched;
+pub use touch::Touched;
 pub use touching::touched;
 
 #[cfg(test)]

@@ -6,9 +6,9 @@ ghost use Rattle.ig_caches.specs.Starts.{CanStart, IsStartFault};
 ghost use Rattle.ig_caches.specs.IsRunnable.{IsRunnable};
 ghost use Rattle.ig_caches.specs.Answered.{answered, after};
 
-use crate::run_on::run_on;
+use crate::run::run_on;
 use crate::shard_rows::ShardRows;
-use crate::touched::Touched;
+use crate::touch::Touched;
 use crate::touching::touched_by;
 use ig_base::{Items, NoMemory, NoRoom, Text};
 use ig_caches::{Answer, Call, Exec, StartFault};

@@ -8,7 +8,7 @@ ghost use Rattle.ig_value.specs.Canon.{Canon};
 ghost use Rattle.ig_caches.specs.IsRunnable.{IsItem, IsRow};
 
 use crate::merge;
-use crate::shard_of::shard_of_key;
+use crate::place::shard_of_key;
 use ig_base::{Items, NoMemory, NoRoom};
 use ig_caches::{Forms, Pair, RowMap};
 use ig_value::Value;

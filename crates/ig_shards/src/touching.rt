@@ -4,8 +4,8 @@ ghost use Rattle.std.specs.Prelude.{◌≡◌, ◌<◌, IfOk};
 ghost use Rattle.ig_caches.specs.IsRunnable.{IsRunnable};
 ghost use Rattle.ig_shards.specs.Touches.{touches};
 
-use crate::shard_of::shard_of_key;
-use crate::touched::Touched;
+use crate::place::shard_of_key;
+use crate::touch::Touched;
 use ig_base::NoMemory;
 use ig_caches::Call;
 
