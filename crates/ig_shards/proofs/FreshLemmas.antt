@@ -36,12 +36,12 @@ placed_fresh shards shard (name ∷ names) =
 
 numbered_fresh : (names : List (List ℕ)) (shards next count : ℕ) → next + count ≡ shards → shards ≤ 256 → AreNumbered shards next (fresh_parts names shards next count)
 numbered_fresh names shards next zero e few = omega (arith, e)
-numbered_fresh names shards next (suc count) e few =
-    (
-      refl, refl,
-      record { within = omega (arith, e); few = few; placed = placed_fresh shards next names; typeless = λ other. refl },
-      numbered_fresh names shards (suc next) count (omega (arith, e)) few,
-    )
+numbered_fresh names shards next (suc count) e few = (
+  refl,
+  refl,
+  record { within = omega (arith, e); few = few; placed = placed_fresh shards next names; typeless = λ other. refl },
+  numbered_fresh names shards (suc next) count (omega (arith, e)) few,
+)
 
 alike_fresh : (names : List (List ℕ)) (shards next count : ℕ) → AllAlike (fresh_caches names) (fresh_parts names shards next count)
 alike_fresh names shards next zero = All-nil (λ (part : Part). AreAlike (fresh_caches names) part.caches)

@@ -158,51 +158,66 @@ apart (ClearKey id key) n s is = on_key (ClearKey id key) n s id key (λ v. (Don
 apart (RemoveKey id key) n s is = on_key (RemoveKey id key) n s id key (λ v. (Yes (is_some v), remove)) refl is
 apart (RemoveIfEquals id key wanted) n s is =
     on_key (RemoveIfEquals id key wanted) n s id key (λ v. (Yes (is_wanted wanted v), keep_unless (is_wanted wanted v) remove)) refl is
-apart (TypeName platform type) n s is = inr (record {
-  does = λ c. (type_name (finite.get c.registry.names (platform, type)), c);
-  is = refl;
-  alone = λ c d. refl;
-  caches = λ c. refl;
-  counts = λ c. refl;
-  answers = λ shards c. refl;
-  leaves = λ shards c. sym (caches_cut_twice shards 0 c);
-}, one_shard s 0 (sym is))
-apart (SetTypeName platform type name) n s is = inr (record {
-  does = λ c. (Yes (admits_name c.registry (platform, type) name), record c { registry = registry_after_name c.registry (platform, type) name });
-  is = refl;
-  alone = λ c d. refl;
-  caches = λ c. refl;
-  counts = λ c. refl;
-  answers = λ shards c. refl;
-  leaves = λ shards c. cut_types shards c (registry_after_name c.registry (platform, type) name);
-}, one_shard s 0 (sym is))
-apart (TypeOf type) n s is = inr (record {
-  does = λ c. (Meta (finite.get c.registry.types type), c);
-  is = refl;
-  alone = λ c d. refl;
-  caches = λ c. refl;
-  counts = λ c. refl;
-  answers = λ shards c. refl;
-  leaves = λ shards c. sym (caches_cut_twice shards 0 c);
-}, one_shard s 0 (sym is))
-apart (PutType meta) n s is = inr (record {
-  does = after_put_type meta;
-  is = refl;
-  alone = λ c d. put_alone meta c d;
-  caches = λ c. put_leaves meta c c;
-  counts = λ c. put_same_count meta c c;
-  answers = λ shards c. put_answers meta c c shards;
-  leaves = λ shards c. put_seen meta c c shards;
-}, one_shard s 0 (sym is))
-apart (Affinity ids) n s is = inr (record {
-  does = λ c. (affinity_of c ids, c);
-  is = refl;
-  alone = λ c d. ap (λ (o : Outcome). (o, both c d)) (keys_alone ids c d);
-  caches = λ c. refl;
-  counts = λ c. refl;
-  answers = λ shards c. sym (keys_seen ids shards c);
-  leaves = λ shards c. sym (caches_cut_twice shards 0 c);
-}, one_shard s 0 (sym is))
+apart (TypeName platform type) n s is = inr (
+  record {
+    does = λ c. (type_name (finite.get c.registry.names (platform, type)), c);
+    is = refl;
+    alone = λ c d. refl;
+    caches = λ c. refl;
+    counts = λ c. refl;
+    answers = λ shards c. refl;
+    leaves = λ shards c. sym (caches_cut_twice shards 0 c);
+  },
+  one_shard s 0 (sym is),
+)
+apart (SetTypeName platform type name) n s is = inr (
+  record {
+    does = λ c. (Yes (admits_name c.registry (platform, type) name), record c { registry = registry_after_name c.registry (platform, type) name });
+    is = refl;
+    alone = λ c d. refl;
+    caches = λ c. refl;
+    counts = λ c. refl;
+    answers = λ shards c. refl;
+    leaves = λ shards c. cut_types shards c (registry_after_name c.registry (platform, type) name);
+  },
+  one_shard s 0 (sym is),
+)
+apart (TypeOf type) n s is = inr (
+  record {
+    does = λ c. (Meta (finite.get c.registry.types type), c);
+    is = refl;
+    alone = λ c d. refl;
+    caches = λ c. refl;
+    counts = λ c. refl;
+    answers = λ shards c. refl;
+    leaves = λ shards c. sym (caches_cut_twice shards 0 c);
+  },
+  one_shard s 0 (sym is),
+)
+apart (PutType meta) n s is = inr (
+  record {
+    does = after_put_type meta;
+    is = refl;
+    alone = λ c d. put_alone meta c d;
+    caches = λ c. put_leaves meta c c;
+    counts = λ c. put_same_count meta c c;
+    answers = λ shards c. put_answers meta c c shards;
+    leaves = λ shards c. put_seen meta c c shards;
+  },
+  one_shard s 0 (sym is),
+)
+apart (Affinity ids) n s is = inr (
+  record {
+    does = λ c. (affinity_of c ids, c);
+    is = refl;
+    alone = λ c d. ap (λ (o : Outcome). (o, both c d)) (keys_alone ids c d);
+    caches = λ c. refl;
+    counts = λ c. refl;
+    answers = λ shards c. sym (keys_seen ids shards c);
+    leaves = λ shards c. sym (caches_cut_twice shards 0 c);
+  },
+  one_shard s 0 (sym is),
+)
 apart _ n s is = absurd (cc)
 
 -- ---- rows that lie in their shards

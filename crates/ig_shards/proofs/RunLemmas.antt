@@ -1,5 +1,5 @@
 -- What a call on its shard alone is of all shards.
-use Rattle.std.proofs.Common.{◌≡◌, ◌<◌, ◌+◌, ◌++◌, ℕ, suc, List, [], ◌∷◌, length, take, drop, get_or, set, Result, Ok, Err, refl, sym, ap, ◌∙◌, subst, arith}
+use Rattle.std.proofs.Common.{◌≡◌, ◌<◌, ◌+◌, ◌++◌, ℕ, suc, List, [], ◌∷◌, length, take, drop, get_or, set, Result, Ok, Err, IfOk, OnOk, IfErr, OnErr, refl, sym, ap, ◌∙◌, subst, arith}
 use Rattle.std.proofs.lemmas.List.{set-get_or, length-take}
 use Rattle.std.proofs.lemmas.List.Elements.{All-cons, All-head, All-tail}
 use Rattle.ig_base.specs.declared.memory.NoRoom.{NoRoom}
@@ -115,8 +115,7 @@ module _ (shards i : ℕ) (parts : List Part) (d new : Part) (call : Call) (all 
       ap (λ ps. answered (together ps) call) (sym whole) ∙ answered_alone shards lower higher this call split touches_part in
       let leaves : after (together parts) call ≡ together (set parts i new) =
       ap (λ ps. after (together ps) call) (sym whole) ∙ left_alone shards lower higher this call split touches_part
-      ∙ ap together (sym put) ∙ ap (λ p. together (set parts i p)) (sym is) in
-      (
+      ∙ ap together (sym put) ∙ ap (λ p. together (set parts i p)) (sym is) in (
         (runs.0 ∙ sym answers, sym leaves),
         subst (λ p. AreAll shards (set parts i p)) (sym is) (record {
           some = all.some;
@@ -133,3 +132,25 @@ pub needs_alone : NeedsItsShardAlone
 unfolding left_part
 needs_alone shards before later part call all touches_it =
     (answered_alone shards before later part call all touches_it, left_alone shards before later part call all touches_it)
+
+-- what a call answers and leaves, in one
+pub as_run : (call : Call) (old new : PlainCaches) (result : Result Answer (NoRoom Call)) → IfOk result (λ answer. answer ≡ answered old call) → OnOk result (new ≡ after old call)
+    → IfErr result (λ e. e.back ≡ call) → OnErr result (new ≡ old) → RunsOn call old result new
+as_run call old new (Ok answer) answers leaves back same = (answers, leaves)
+as_run call old new (Err e) answers leaves back same = (back, same)
+
+pub run_answers : (call : Call) (old new : PlainCaches) (result : Result Answer (NoRoom Call)) → RunsOn call old result new → IfOk result (λ answer. answer ≡ answered old call)
+run_answers call old new (Ok answer) runs = runs.0
+run_answers call old new (Err e) runs = tt
+
+pub run_leaves : (call : Call) (old new : PlainCaches) (result : Result Answer (NoRoom Call)) → RunsOn call old result new → OnOk result (new ≡ after old call)
+run_leaves call old new (Ok answer) runs = runs.1
+run_leaves call old new (Err e) runs = tt
+
+pub run_hands_back : (call : Call) (old new : PlainCaches) (result : Result Answer (NoRoom Call)) → RunsOn call old result new → IfErr result (λ e. e.back ≡ call)
+run_hands_back call old new (Ok answer) runs = tt
+run_hands_back call old new (Err e) runs = runs.0
+
+pub run_keeps : (call : Call) (old new : PlainCaches) (result : Result Answer (NoRoom Call)) → RunsOn call old result new → OnErr result (new ≡ old)
+run_keeps call old new (Ok answer) runs = tt
+run_keeps call old new (Err e) runs = runs.1

@@ -105,11 +105,10 @@ placed_as shards shard part rows number count placed = subst (λ n. IsPlaced n s
 
 pub spread_parts : (shards next : ℕ) (parts : List Part) (id : ℤ) → AreNumbered shards next parts → AreSpreadFrom shards next (rows_in_parts parts id)
 spread_parts shards next [] id numbered = numbered
-spread_parts shards next (part ∷ parts) id numbered =
-    (
-      placed_as shards next part (rows_at part.caches.caches id finite.empty) numbered.0 numbered.1 (placed_at part.shards part.number part.caches.caches id numbered.2.placed),
-      spread_parts shards (suc next) parts id numbered.3,
-    )
+spread_parts shards next (part ∷ parts) id numbered = (
+  placed_as shards next part (rows_at part.caches.caches id finite.empty) numbered.0 numbered.1 (placed_at part.shards part.number part.caches.caches id numbered.2.placed),
+  spread_parts shards (suc next) parts id numbered.3,
+)
 
 -- with rows that lie in their shards they stay shards
 pub numbered_rows : (shards next : ℕ) (parts : List Part) (id : ℤ) (rows : List Rows) → AreNumbered shards next parts → AreSpreadFrom shards next rows → AreNumbered shards next (with_rows_in_parts parts id rows)
@@ -117,9 +116,9 @@ numbered_rows shards next [] id rows numbered spread = numbered
 numbered_rows shards next (part ∷ parts) id [] numbered spread = numbered
 numbered_rows shards next (part ∷ parts) id (here ∷ rows) numbered spread =
     let it : IsPart part = numbered.2 in
-    let placed : IsPlaced part.shards part.number here = subst (λ n. IsPlaced n part.number here) (sym numbered.1) (subst (λ n. IsPlaced shards n here) (sym numbered.0) spread.0) in
-    (
-      numbered.0, numbered.1,
+    let placed : IsPlaced part.shards part.number here = subst (λ n. IsPlaced n part.number here) (sym numbered.1) (subst (λ n. IsPlaced shards n here) (sym numbered.0) spread.0) in (
+      numbered.0,
+      numbered.1,
       record {
         within = it.within;
         few = it.few;

@@ -69,6 +69,8 @@ module _ (shards : ℕ) (first : Part) (parts : List Part) (id : ℤ) (call : Ca
     pub failed_in_all : (e : NoRoom Call) → RunsOnRows call (union (rows_in_parts (first ∷ parts) id)) (Err e) (union rows)
         → RunsOn call (together (first ∷ parts)) (Err e) (together (with_rows_in_parts (first ∷ parts) id rows))
     unfolding whole taken
-    failed_in_all e failed =
-        (failed.0, sym put ∙ ap (with_rows_of whole id) failed.1
-        ∙ ap (λ (cs : List Cache). record whole { caches = cs }) (with_own whole.caches id (record cache { rows = taken }) found))
+    failed_in_all e failed = (
+      failed.0,
+      sym put ∙ ap (with_rows_of whole id) failed.1
+          ∙ ap (λ (cs : List Cache). record whole { caches = cs }) (with_own whole.caches id (record cache { rows = taken }) found),
+    )

@@ -17,8 +17,8 @@ mod touch;
 mod touching;
 mod whole;
 
-pub use run::run_on;
 pub use place::shard_of;
+pub use run::run_on;
 pub use shard_rows::ShardRows;
 pub use shards::Shards;
 pub use touch::Touched;

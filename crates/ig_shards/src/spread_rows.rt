@@ -30,10 +30,9 @@ impl Model for SpreadRows {
     ghost Value = { ℕ × Rows };
 
     ghost use Rattle.std.specs.Coded.{coded×, coded_ℕ, coded_list};
-    ghost use Rattle.std.specs.FinMap as map;
     ghost use Rattle.ig_caches.specs.contracts.call.Pair as pair;
 
-    ghost coded = { coded× coded_ℕ (map.code (coded_list coded_ℕ) pair.the_row.coded) };
+    ghost coded = { coded× coded_ℕ (finite.code (coded_list coded_ℕ) pair.the_row.coded) };
 
     ghost use Rattle.ig_shards.specs.Spread.{union, AreSpreadFrom};
 
@@ -75,7 +74,6 @@ fn saturating(count: usize) -> i64
 }
 
 impl SpreadRows {
-    ghost use Rattle.std.specs.FinMap as map;
     ghost use Rattle.ig_caches.specs.RowEntries.{is_among};
     ghost use Rattle.ig_caches.specs.Effect.{count_of};
     ghost use Rattle.ig_caches.specs.Rows.{row_of, value_of, has_row, with_row, without_row, all_rows};
@@ -144,7 +142,7 @@ impl SpreadRows {
 
     /// Removes all rows. Takes no memory.
     pub(crate) fn clear(&mut self)
-        ensures { self.new ≡ (self.old.0, map.empty) }
+        ensures { self.new ≡ (self.old.0, finite.empty) }
     {
         clear_all(self.shards.as_mut_slice());
     }

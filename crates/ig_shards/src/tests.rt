@@ -3,7 +3,7 @@ ghost use Rattle.ig_caches.specs.IsRunnable.{IsItem, IsRow, IsRunnable};
 
 use super::*;
 use ig_base::{Items, Octets, Text, text_hash};
-use ig_caches::{Call, Caches, Exec, Outcome, Pair, StartFault};
+use ig_caches::{Caches, Call, Exec, Outcome, Pair, StartFault};
 use ig_types::{FieldMeta, TypeMeta};
 use ig_value::Value;
 use std::alloc::{AllocError, Global};
@@ -293,7 +293,10 @@ fn keys_lie_in_their_shards(rt: HostRuntime) -> Result<(), Fail> {
     assert_eq!(rt; shard_of(&[3, 2, 0, 0, 0], 64), 32);
     assert_eq!(rt; shard_of(&[3, 3, 0, 0, 0], 64), 63);
     assert_eq!(rt; shard_of(&[3, 4, 0, 0, 0], 64), 30);
-    assert_eq!(rt; shard_of(&[4, 255, 255, 255, 255, 255, 255, 255, 255], 5), 4);
+    assert_eq!(rt;
+        shard_of(&[4, 255, 255, 255, 255, 255, 255, 255, 255], 5),
+        4
+    );
     Ok(())
 }
 
@@ -396,9 +399,21 @@ fn many(alloc: Global, count: u32) -> Result<Vec<Text>, AllocError> {
 
 #[test]
 fn starts_and_their_faults(rt: HostRuntime) -> Result<(), Fail> {
-    assert_eq!(rt; started(rt.alloc(), names(rt.alloc(), &["a", "b"])?), Ok(()));
-    assert_eq!(rt; started(rt.alloc(), names(rt.alloc(), &["a", "a"])?), Err(StartFault::Taken { at: 1 }));
-    assert_eq!(rt; started(rt.alloc(), names(rt.alloc(), &["a", ""])?), Err(StartFault::Empty { at: 1 }));
-    assert_eq!(rt; started(rt.alloc(), many(rt.alloc(), 1025)?), Err(StartFault::TooMany));
+    assert_eq!(rt;
+        started(rt.alloc(), names(rt.alloc(), &["a", "b"])?),
+        Ok(())
+    );
+    assert_eq!(rt;
+        started(rt.alloc(), names(rt.alloc(), &["a", "a"])?),
+        Err(StartFault::Taken { at: 1 })
+    );
+    assert_eq!(rt;
+        started(rt.alloc(), names(rt.alloc(), &["a", ""])?),
+        Err(StartFault::Empty { at: 1 })
+    );
+    assert_eq!(rt;
+        started(rt.alloc(), many(rt.alloc(), 1025)?),
+        Err(StartFault::TooMany)
+    );
     Ok(())
 }
