@@ -6,5 +6,6 @@ pub mod RunLemmas
 pub mod FreshLemmas
 pub mod WholeLemmas
 pub mod MarkLemmas
+pub mod MergeLemmas
 pub mod CutLemmas
 pub mod LegalLemmas

@@ -1,5 +1,5 @@
 -- Putting several rows: rows are put first under keys that have none, and taken out again or written.
-use Rattle.std.proofs.Common.{◌≡◌, ◌<◌, ◌⊎◌, ◌+◌, ◌++◌, ◌&&◌, ◌||◌, ℕ, suc, Bool, true, false, cond, List, [], ◌∷◌, length, take, drop, get_or, Option, None, Some, is_some, refl, sym, ap, ◌∙◌, subst, inl, inr, arith}
+use Rattle.std.proofs.Common.{◌≡◌, ◌<◌, ◌⊎◌, ◌+◌, ◌++◌, ◌&&◌, ◌||◌, ℕ, zero, suc, Bool, true, false, cond, List, [], ◌∷◌, length, take, drop, get_or, Option, None, Some, is_some, refl, sym, ap, ◌∙◌, subst, inl, inr, arith}
 use Rattle.std.proofs.lemmas.Bool.{cases_Bool, cond-true, cond-false}
 use Rattle.std.specs.Cmp.Lexicographic.{nat_list_cmp_total}
 use Rattle.std.specs.FinMap as finite
@@ -144,6 +144,21 @@ has_with rows pairs row all q e = elim (cases_Bool (ties q (Canon row.key))) [
 
 pub has_put : (rows : Rows) (row : Pair) (key : Value) → row.key ≡ key → has_row (with_row rows row) key ≡ true
 has_put rows row key is = ap is_some (here rows (Canon row.key) row (Canon key) (same_tied (Canon key) (Canon row.key) (ap Canon (sym is))))
+
+-- a key that is marked at an index
+pub marked_there : (i : ℕ) (marks later : List Bool) (pairs others : List Pair) (pair : Pair) → drop i marks ≡ true ∷ later → drop i pairs ≡ pair ∷ others → is_marked marks pairs (Canon pair.key) ≡ true
+marked_there zero [] later pairs others pair at_mark at_pair = absurd (cc)
+marked_there zero (mark ∷ marks) later [] others pair at_mark at_pair = absurd (cc)
+marked_there zero (mark ∷ marks) later (first ∷ pairs) others pair at_mark at_pair =
+    let on : mark ≡ true = cc in
+    let it : first ≡ pair = cc in
+    ap (λ (b : Bool). (b && ties (Canon pair.key) (Canon first.key)) || is_marked marks pairs (Canon pair.key)) on
+    ∙ ap (λ (b : Bool). b || is_marked marks pairs (Canon pair.key)) (same_tied (Canon pair.key) (Canon first.key) (ap (λ (p : Pair). Canon p.key) (sym it)))
+marked_there (suc i) [] later pairs others pair at_mark at_pair = absurd (cc)
+marked_there (suc i) (mark ∷ marks) later [] others pair at_mark at_pair = absurd (cc)
+marked_there (suc i) (mark ∷ marks) later (first ∷ pairs) others pair at_mark at_pair =
+    ap (λ (b : Bool). (mark && ties (Canon pair.key) (Canon first.key)) || b) (marked_there i marks later pairs others pair at_mark at_pair)
+    ∙ or_true (mark && ties (Canon pair.key) (Canon first.key))
 
 -- ---- taking marked rows out again
 pub released : (old now : Rows) (mark : Bool) (marks : List Bool) (pair : Pair) (pairs : List Pair) → (mark ≡ true → finite.get old (Canon pair.key) ≡ None)

@@ -243,11 +243,11 @@ spread_length shards next (rows ∷ others) spread =
     omega (arith, e)
 
 -- ---- how many rows there are
-both_true : (a b : Bool) → T (a && b) → T a × T b
+pub both_true : (a b : Bool) → T (a && b) → T a × T b
 both_true true b e = (tt, e)
 both_true false b e = absurd e
 
-nat_cases : (a b : ℕ) → (a < b) ⊎ (b ≤ a)
+pub nat_cases : (a b : ℕ) → (a < b) ⊎ (b ≤ a)
 nat_cases zero zero = inr (omega arith)
 nat_cases zero (suc b) = inl (omega arith)
 nat_cases (suc a) zero = inr (omega arith)

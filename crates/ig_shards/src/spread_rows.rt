@@ -30,9 +30,10 @@ impl Model for SpreadRows {
     ghost Value = { ℕ × Rows };
 
     ghost use Rattle.std.specs.Coded.{coded×, coded_ℕ, coded_list};
+    ghost use Rattle.std.specs.FinMap as map;
     ghost use Rattle.ig_caches.specs.contracts.call.Pair as pair;
 
-    ghost coded = { coded× coded_ℕ (finite.code (coded_list coded_ℕ) pair.the_row.coded) };
+    ghost coded = { coded× coded_ℕ (map.code (coded_list coded_ℕ) pair.the_row.coded) };
 
     ghost use Rattle.ig_shards.specs.Spread.{union, AreSpreadFrom};
 
