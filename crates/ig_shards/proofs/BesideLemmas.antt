@@ -37,11 +37,15 @@ rest_of [] = []
 rest_of (h ∷ hs) = hs
 
 -- caches with the same heads, beginning with a cache, begin with one of the same identifier
-same_first : (a b : Cache) (caches others : List Cache) → map head (a ∷ caches) ≡ map head (b ∷ others) → a.id ≡ b.id
+pub same_first : (a b : Cache) (caches others : List Cache) → map head (a ∷ caches) ≡ map head (b ∷ others) → a.id ≡ b.id
 unfolding first_of
 same_first a b caches others same = ap (λ hs. (first_of hs).0) same
 
-same_rest : (a b : Cache) (caches others : List Cache) → map head (a ∷ caches) ≡ map head (b ∷ others) → map head caches ≡ map head others
+pub same_head : (a b : Cache) (caches others : List Cache) → map head (a ∷ caches) ≡ map head (b ∷ others) → head a ≡ head b
+unfolding first_of
+same_head a b caches others same = ap first_of same
+
+pub same_rest : (a b : Cache) (caches others : List Cache) → map head (a ∷ caches) ≡ map head (b ∷ others) → map head caches ≡ map head others
 unfolding rest_of
 same_rest a b caches others same = ap rest_of same
 

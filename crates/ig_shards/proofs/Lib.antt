@@ -2,6 +2,7 @@ pub mod SpreadLemmas
 pub mod BesideLemmas
 pub mod PartLemmas
 pub mod TogetherLemmas
+pub mod CreationLemmas
 pub mod RunLemmas
 pub mod FreshLemmas
 pub mod WholeLemmas

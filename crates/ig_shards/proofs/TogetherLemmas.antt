@@ -1,6 +1,7 @@
 -- Shards together: calls that need all of them.
 use Rattle.std.proofs.Common.{◌≡◌, ◌≢◌, ◌<◌, ◌+◌, ◌++◌, ℕ, zero, suc, ℤ, pos, Bool, true, false, nat_le, cond, List, [], ◌∷◌, length, take, get_or, set, map, All, Option, None, Some, refl, sym, ap, ap₂, ◌∙◌, subst, inl, inr, arith}
 use Rattle.std.proofs.lemmas.Bool.{cases_Bool, cond-true, cond-false}
+use Rattle.std.proofs.lemmas.List.{map-append}
 use Rattle.std.proofs.lemmas.List.Elements.{All-nil, All-cons, All-head, All-tail}
 use Rattle.std.proofs.Math.Seq.{take-nil}
 use Rattle.std.specs.Ordering.{int_eq}
@@ -15,12 +16,12 @@ use Rattle.ig_caches.specs.RowsAt.{rows_at, with_rows_of}
 use Rattle.ig_caches.specs.PlainCaches.{Cache, PlainCaches, has_id, id_of, fresh_cache, fresh_caches, cache_of, caches_with_rows, caches_without}
 use Rattle.ig_caches.specs.Effect.{created, changed_to, next_count, max_caches, after_destroy}
 use Rattle.ig_caches.proofs.KeyLemmas.{with_twice}
-use Rattle.ig_caches.proofs.CacheLemmas.{with_own}
+use Rattle.ig_caches.proofs.CacheLemmas.{with_own, destroy_none, destroy_found}
 use Rattle.ig_shards.specs.Spread.{either, union, IsPlaced, AreSpreadFrom}
 use Rattle.ig_shards.specs.Parts.{Part, beside, both, together, heads, AreAlike, IsPart, AreNumbered, AllAlike, AreAll}
 use Rattle.ig_shards.specs.RowsOfParts.{rows_in_parts, rows_or, with_rows_in_parts}
 use Rattle.ig_shards.proofs.SpreadLemmas.{either_none, placed_none}
-use Rattle.ig_shards.proofs.BesideLemmas.{head, same_first, same_rest, beside_none, beside_heads, IsInBoth, found_in_both, rows_in_both, all_found, all_with_rows, heads_with_rows}
+use Rattle.ig_shards.proofs.BesideLemmas.{head, same_first, same_head, same_rest, beside_none, beside_heads, IsInBoth, found_in_both, missing_in_both, missing_in_other, rows_in_both, all_found, all_with_rows, heads_with_rows}
 use Rattle.ig_shards.proofs.PartLemmas.{both_none, heads_together}
 
 some_cache : Cache → Option Cache → Cache
@@ -59,15 +60,7 @@ found_together c first (next ∷ parts) id cache all is =
 
 -- without it in the first shard there is none
 pub missing_together : (first : Part) (parts : List Part) (id : ℤ) → cache_of first.caches.caches id ≡ None → cache_of (together (first ∷ parts)).caches id ≡ None
-missing_together first parts id none = missing first.caches.caches (together parts).caches none
-  where
-    missing : (caches others : List Cache) → cache_of caches id ≡ None → cache_of (beside caches others) id ≡ None
-    missing [] others none = refl
-    missing (a ∷ caches) [] none = none
-    missing (a ∷ caches) (b ∷ others) none = elim (cases_Bool (has_id id a)) [
-      | inl here ↦ let never : Some a ≡ None = sym (cond-true (has_id id a) _ _ here) ∙ none in absurd (cc)
-      | inr later ↦ cond-false (has_id id a) _ _ later ∙ missing caches others (sym (cond-false (has_id id a) _ _ later) ∙ none)
-    ]
+missing_together first parts id none = missing_in_both first.caches.caches (together parts).caches id none
 
 -- other rows in each shard are the rows of all in all
 pub rows_together : (c : PlainCaches) (parts : List Part) (id : ℤ) (rows : List Rows) → AllAlike c parts → length rows ≡ length parts
@@ -258,3 +251,79 @@ module _ (name : List ℕ) where
         ap (λ n. made (both c d) (nat_le max_caches n)) (length_both c.caches d.caches)
         ∙ made_both (nat_le max_caches (length c.caches))
         ∙ ap (λ n. ((created c name).0, both (created c name).1 (made d (nat_le max_caches n)).1)) (sym (length_alike c.caches d.caches alike.names))
+
+    alike_counted : (o : Option ℤ) → AreAlike (counted c o).1 (counted d o).1
+    alike_counted None = alike
+    alike_counted (Some minor) = record {
+      names = map-append head c.caches (fresh_cache name ∷ []) ∙ ap (λ (hs : List (ℤ × List ℕ)). hs ++ head (fresh_cache name) ∷ []) alike.names ∙ sym (map-append head d.caches (fresh_cache name ∷ []));
+      counts = refl;
+    }
+
+    alike_made : (b : Bool) → AreAlike (made c b).1 (made d b).1
+    alike_made true = alike
+    alike_made false =
+        subst (λ (o : Option ℤ). AreAlike (counted c (next_count c.minor)).1 (counted d o).1) (ap next_count alike.counts) (alike_counted (next_count c.minor))
+
+    -- and leaves them alike
+    pub alike_created : AreAlike (created c name).1 (created d name).1
+    alike_created =
+        subst (λ n. AreAlike (created c name).1 (made d (nat_le max_caches n)).1) (sym (length_alike c.caches d.caches alike.names)) (alike_made (nat_le max_caches (length c.caches)))
+
+heads_without : (id : ℤ) (caches others : List Cache) → map head caches ≡ map head others → map head (caches_without caches id) ≡ map head (caches_without others id)
+heads_without id [] [] same = refl
+heads_without id [] (b ∷ others) same = absurd (cc)
+heads_without id (a ∷ caches) [] same = absurd (cc)
+heads_without id (a ∷ caches) (b ∷ others) same = elim (cases_Bool (has_id id a)) [
+  | inl here ↦
+      let there : has_id id b ≡ true = sym (ap (int_eq id) (same_first a b caches others same)) ∙ here in
+      ap (map head) (cond-true (has_id id a) caches (a ∷ caches_without caches id) here)
+      ∙ same_rest a b caches others same
+      ∙ sym (ap (map head) (cond-true (has_id id b) others (b ∷ caches_without others id) there))
+  | inr later ↦
+      let beyond : has_id id b ≡ false = sym (ap (int_eq id) (same_first a b caches others same)) ∙ later in
+      ap (map head) (cond-false (has_id id a) caches (a ∷ caches_without caches id) later)
+      ∙ ap (λ (hs : List (ℤ × List ℕ)). head a ∷ hs) (heads_without id caches others (same_rest a b caches others same))
+      ∙ ap (λ (h : ℤ × List ℕ). h ∷ map head (caches_without others id)) (same_head a b caches others same)
+      ∙ sym (ap (map head) (cond-false (has_id id b) others (b ∷ caches_without others id) beyond))
+]
+
+-- a destruction in two is one in each
+module _ (id : ℤ) (c d : PlainCaches) (alike : AreAlike c d) where
+  abbrev removed : PlainCaches → Option ℤ → Outcome × PlainCaches
+  removed e o = option_map_or (λ (minor : ℤ). (Done, record e { caches = caches_without e.caches id; minor = minor })) o (Refused why.TooManyChanges, e)
+
+  removed_both : (o : Option ℤ) → removed (both c d) o ≡ ((removed c o).0, both (removed c o).1 (removed d o).1)
+  removed_both None = refl
+  removed_both (Some minor) = ap (λ (cs : List Cache). (Done, record c { caches = cs; minor = minor })) (sym (removed_from_both id c.caches d.caches alike.names))
+
+  pub destroyed_both : after_destroy id (both c d) ≡ ((after_destroy id c).0, both (after_destroy id c).1 (after_destroy id d).1)
+  destroyed_both = by (cache_of c.caches id) refl
+    where
+      by : (o : Option Cache) → cache_of c.caches id ≡ o → after_destroy id (both c d) ≡ ((after_destroy id c).0, both (after_destroy id c).1 (after_destroy id d).1)
+      by None none =
+          destroy_none (both c d) id (missing_in_both c.caches d.caches id none)
+          ∙ sym (ap₂ (λ (r s : Outcome × PlainCaches). (r.0, both r.1 s.1)) (destroy_none c id none) (destroy_none d id (missing_in_other c.caches d.caches id alike.names none)))
+      by (Some cache) stands =
+          let it : IsInBoth c.caches d.caches id cache = found_in_both c.caches d.caches id cache alike.names stands in
+          destroy_found (both c d) id (record cache { rows = either cache.rows it.other.rows }) it.whole
+          ∙ removed_both (next_count c.minor)
+          ∙ ap (λ (o : Option ℤ). ((removed c (next_count c.minor)).0, both (removed c (next_count c.minor)).1 (removed d o).1)) (ap next_count alike.counts)
+          ∙ sym (ap₂ (λ (r s : Outcome × PlainCaches). (r.0, both r.1 s.1)) (destroy_found c id cache stands) (destroy_found d id it.other it.stands))
+
+  alike_removed : (o : Option ℤ) → AreAlike (removed c o).1 (removed d o).1
+  alike_removed None = alike
+  alike_removed (Some minor) = record { names = heads_without id c.caches d.caches alike.names; counts = refl }
+
+  -- and leaves them alike
+  pub alike_destroyed : AreAlike (after_destroy id c).1 (after_destroy id d).1
+  alike_destroyed = by (cache_of c.caches id) refl
+    where
+      by : (o : Option Cache) → cache_of c.caches id ≡ o → AreAlike (after_destroy id c).1 (after_destroy id d).1
+      by None none =
+          subst (λ (r : Outcome × PlainCaches). AreAlike r.1 (after_destroy id d).1) (sym (destroy_none c id none))
+          (subst (λ (r : Outcome × PlainCaches). AreAlike c r.1) (sym (destroy_none d id (missing_in_other c.caches d.caches id alike.names none))) alike)
+      by (Some cache) stands =
+          let it : IsInBoth c.caches d.caches id cache = found_in_both c.caches d.caches id cache alike.names stands in
+          subst (λ (r : Outcome × PlainCaches). AreAlike r.1 (after_destroy id d).1) (sym (destroy_found c id cache stands))
+          (subst (λ (r : Outcome × PlainCaches). AreAlike (removed c (next_count c.minor)).1 r.1) (sym (destroy_found d id it.other it.stands))
+          (subst (λ (o : Option ℤ). AreAlike (removed c (next_count c.minor)).1 (removed d o).1) (ap next_count alike.counts) (alike_removed (next_count c.minor))))

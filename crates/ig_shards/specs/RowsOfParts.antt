@@ -3,7 +3,7 @@ use Rattle.std.specs.Prelude.{ℕ, ℤ, List, [], ◌∷◌, map}
 use Rattle.std.specs.FinMap as finite
 use Rattle.ig_caches.specs.Rows.{Rows}
 use Rattle.ig_caches.specs.RowsAt.{rows_at, with_rows_of}
-use Rattle.ig_caches.specs.Effect.{created}
+use Rattle.ig_caches.specs.Effect.{created, after_destroy}
 use Rattle.ig_shards.specs.Parts.{Part}
 
 -- the rows that each shard has of the cache
@@ -29,3 +29,11 @@ created_in name part = record part { caches = (created part.caches name).1 }
 -- the shards, each with one more cache of this name
 abbrev pub created_in_parts : List Part → List ℕ → List Part
 created_in_parts parts name = map (created_in name) parts
+
+-- the shard without the cache of this identifier
+abbrev pub destroyed_in : ℤ → Part → Part
+destroyed_in id part = record part { caches = (after_destroy id part.caches).1 }
+
+-- the shards, each without the cache of this identifier
+abbrev pub destroyed_in_parts : List Part → ℤ → List Part
+destroyed_in_parts parts id = map (destroyed_in id) parts

@@ -13,7 +13,7 @@ ghost use Rattle.ig_caches.specs.RunsOnRows.{IsOnRowsOf};
 ghost use Rattle.ig_shards.specs.Marks.{IsOnSeveral};
 ghost use Rattle.ig_shards.specs.Parts.{AreAll, together};
 ghost use Rattle.ig_shards.specs.PartView.{parts_of};
-ghost use Rattle.ig_shards.specs.RowsOfParts.{rows_or, with_rows_in_parts, created_in_parts};
+ghost use Rattle.ig_shards.specs.RowsOfParts.{rows_or, with_rows_in_parts, created_in_parts, destroyed_in_parts};
 
 use crate::shard_rows::ShardRows;
 use crate::spread_rows::SpreadRows;
@@ -195,13 +195,21 @@ pub(crate) fn get_or_create(
     }
 }
 
+/// Destroys the cache in each of the shards. Takes no memory.
+fn destroy_in_each(parts: &mut [ShardRows], cache: i32)
+    ensures { parts_of parts.new ≡ destroyed_in_parts (parts_of parts.old) cache }
+{
+    for part in parts.iter_mut() {
+        drop(part.caches.destroy(cache));
+    }
+}
+
 pub(crate) fn destroy(parts: &mut [ShardRows], cache: i32) -> Result<Answer, NoRoom<Call>>
     requires all { (shards : ℕ) × AreAll shards (parts_of parts.old) }
     ensures runs { RunsOn (Destroy cache) (together (parts_of parts.old)) result (together (parts_of parts.new)) }
     ensures all { (shards : ℕ) → AreAll shards (parts_of parts.old) → AreAll shards (parts_of parts.new) }
 {
-    for at in 1..parts.len() {
-        drop(parts[at].caches.destroy(cache));
-    }
-    parts[0].caches.destroy(cache)
+    let ran = parts[0].caches.destroy(cache);
+    destroy_in_each(&mut parts[1..], cache);
+    ran
 }
