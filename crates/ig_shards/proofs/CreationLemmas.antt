@@ -15,25 +15,35 @@ use Rattle.ig_shards.proofs.SpreadLemmas.{placed_none}
 use Rattle.ig_shards.proofs.PartLemmas.{both_none, heads_together}
 use Rattle.ig_shards.proofs.TogetherLemmas.{created_both, alike_created, destroyed_both, alike_destroyed}
 
+-- the caches after a change, by whether it can be counted, whether there are too many, and whether there is such a cache
+abbrev counted : PlainCaches → List Cache → Option ℤ → Outcome × PlainCaches
+counted c caches o = option_map_or (λ (minor : ℤ). (Done, record c { caches = caches; minor = minor })) o (Refused why.TooManyChanges, c)
+
+abbrev made : PlainCaches → List ℕ → Bool → Outcome × PlainCaches
+made c name b = cond b (Refused why.TooManyCaches, c) (changed_to c (c.caches ++ fresh_cache name ∷ []))
+
+abbrev removed : PlainCaches → ℤ → Option Cache → Outcome × PlainCaches
+removed c id o = option_map_or (λ (cache : Cache). changed_to c (caches_without c.caches id)) o (Refused why.NoCache, c)
+
 -- what holds of caches as they are and of the changed ones holds whether the change is counted or refused
 changed_keeps : (P : PlainCaches → Type 0) (c : PlainCaches) (caches : List Cache) → P c → ((minor : ℤ) → P (record c { caches = caches; minor = minor })) → P (changed_to c caches).1
 changed_keeps P c caches before changes = by (next_count c.minor)
   where
-    by : (o : Option ℤ) → P (option_map_or (λ (minor : ℤ). (Done, record c { caches = caches; minor = minor })) o (Refused why.TooManyChanges, c)).1
+    by : (o : Option ℤ) → P (counted c caches o).1
     by None = before
     by (Some minor) = changes minor
 
 created_keeps : (P : PlainCaches → Type 0) (c : PlainCaches) (name : List ℕ) → P c → ((minor : ℤ) → P (record c { caches = c.caches ++ fresh_cache name ∷ []; minor = minor })) → P (created c name).1
 created_keeps P c name before changes = by (nat_le max_caches (length c.caches))
   where
-    by : (b : Bool) → P (cond b (Refused why.TooManyCaches, c) (changed_to c (c.caches ++ fresh_cache name ∷ []))).1
+    by : (b : Bool) → P (made c name b).1
     by true = before
     by false = changed_keeps P c (c.caches ++ fresh_cache name ∷ []) before changes
 
 destroyed_keeps : (P : PlainCaches → Type 0) (c : PlainCaches) (id : ℤ) → P c → ((minor : ℤ) → P (record c { caches = caches_without c.caches id; minor = minor })) → P (after_destroy id c).1
 destroyed_keeps P c id before changes = by (cache_of c.caches id)
   where
-    by : (o : Option Cache) → P (option_map_or (λ (cache : Cache). changed_to c (caches_without c.caches id)) o (Refused why.NoCache, c)).1
+    by : (o : Option Cache) → P (removed c id o).1
     by None = before
     by (Some cache) = changed_keeps P c (caches_without c.caches id) before changes
 

@@ -12,9 +12,9 @@ use Rattle.ig_caches.specs.declared.call.Pair.{Pair}
 use Rattle.ig_caches.specs.Rows.{Rows}
 use Rattle.ig_caches.proofs.RowEntryLemmas.{by_bytes, ties, exact, same_tied, same_rows}
 use Rattle.ig_shards.specs.ShardOf.{shard_of}
-use Rattle.ig_shards.specs.Spread.{either, union, IsPlaced, AreSpreadFrom}
+use Rattle.ig_shards.specs.Spread.{either, union, AreSpreadFrom}
 use Rattle.ig_shards.specs.Merges.{AreApart, ArePlacedFrom}
-use Rattle.ig_shards.proofs.SpreadLemmas.{or_else, get_either, get_second, either_none, none_elsewhere, less_next, nat_cases, both_true}
+use Rattle.ig_shards.proofs.SpreadLemmas.{or_else, get_either, get_second, either_none, none_elsewhere, not_less, less_next, nat_cases, both_true}
 
 abbrev pub Entries : Type 0
 Entries = List (List ℕ × Pair)
@@ -223,6 +223,12 @@ same_sum n m = omega arith
 no_more : (n : ℕ) → n + 0 ≡ n
 no_more n = omega arith
 
+not_above : (a n m : ℕ) → a ≡ n → n + suc m ≤ a → ⊥
+not_above a n m e above = omega (arith, e, above)
+
+still_above : (a n m : ℕ) → n + suc m ≤ a → suc n + m ≤ a
+still_above a n m above = omega (arith, above)
+
 pub placed_take : (shards next n : ℕ) (all : List Rows) → ArePlacedFrom shards next all → ArePlacedFrom shards next (take n all)
 placed_take shards next zero [] placed = tt
 placed_take shards next (suc n) [] placed = tt
@@ -239,15 +245,15 @@ placed_drop shards next (suc n) (rows ∷ others) placed = subst (λ m. ArePlace
 none_lower : (shards next : ℕ) (form : List ℕ) (all : List Rows) → ArePlacedFrom shards next all → shard_of shards form < next → finite.get (union all) form ≡ None
 none_lower shards next form [] placed below = finite.get-empty by_bytes form
 none_lower shards next form (rows ∷ others) placed below =
-    get_second rows (union others) form (none_elsewhere shards next rows form placed.0 (λ here. omega (arith, here, below)))
+    get_second rows (union others) form (none_elsewhere shards next rows form placed.0 (λ here. not_less (shard_of shards form) next here below))
     ∙ none_lower shards (suc next) form others placed.1 (less_next (shard_of shards form) next below)
 
 -- nor in those of lower ones
 none_higher : (shards next : ℕ) (form : List ℕ) (all : List Rows) → ArePlacedFrom shards next all → next + length all ≤ shard_of shards form → finite.get (union all) form ≡ None
 none_higher shards next form [] placed above = finite.get-empty by_bytes form
 none_higher shards next form (rows ∷ others) placed above =
-    get_second rows (union others) form (none_elsewhere shards next rows form placed.0 (λ here. omega (arith, here, above)))
-    ∙ none_higher shards (suc next) form others placed.1 (omega (arith, above))
+    get_second rows (union others) form (none_elsewhere shards next rows form placed.0 (λ here. not_above (shard_of shards form) next (length others) here above))
+    ∙ none_higher shards (suc next) form others placed.1 (still_above (shard_of shards form) next (length others) above)
 
 apart_placed : (shards next : ℕ) (all others : List Rows) → ArePlacedFrom shards next all → ArePlacedFrom shards (next + length all) others → AreApart (union all) (union others)
 apart_placed shards next all others placed later form = elim (nat_cases (shard_of shards form) (next + length all)) [
