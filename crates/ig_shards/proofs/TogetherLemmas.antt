@@ -1,7 +1,7 @@
 -- Shards together: calls that need all of them.
 use Rattle.std.proofs.Common.{◌≡◌, ◌≢◌, ◌<◌, ◌+◌, ◌++◌, ℕ, zero, suc, ℤ, pos, Bool, true, false, nat_le, cond, List, [], ◌∷◌, length, take, get_or, set, map, All, Option, None, Some, refl, sym, ap, ap₂, ◌∙◌, subst, inl, inr, arith}
 use Rattle.std.proofs.lemmas.Bool.{cases_Bool, cond-true, cond-false}
-use Rattle.std.proofs.lemmas.List.{map-append}
+use Rattle.std.proofs.lemmas.List.{map-append, length-append}
 use Rattle.std.proofs.lemmas.List.Elements.{All-nil, All-cons, All-head, All-tail}
 use Rattle.std.proofs.Math.Seq.{take-nil}
 use Rattle.std.specs.Ordering.{int_eq}
@@ -251,6 +251,23 @@ module _ (name : List ℕ) where
         ap (λ n. made (both c d) (nat_le max_caches n)) (length_both c.caches d.caches)
         ∙ made_both (nat_le max_caches (length c.caches))
         ∙ ap (λ n. ((created c name).0, both (created c name).1 (made d (nat_le max_caches n)).1)) (sym (length_alike c.caches d.caches alike.names))
+
+    unmade_counted : (o : Option ℤ) → (counted c o).1 ≡ c → (counted d o).1 ≡ d
+    unmade_counted None same = refl
+    unmade_counted (Some minor) same =
+        let long : length (c.caches ++ fresh_cache name ∷ []) ≡ length c.caches = ap (λ (e : PlainCaches). length e.caches) same in
+        absurd (omega (arith, long, length-append c.caches (fresh_cache name ∷ [])))
+
+    unmade : (b : Bool) → (made c b).1 ≡ c → (made d b).1 ≡ d
+    unmade true same = refl
+    unmade false same =
+        ap (λ (o : Option ℤ). (counted d o).1) (sym (ap next_count alike.counts))
+        ∙ unmade_counted (next_count c.minor) same
+
+    -- what is refused in one is refused in the other
+    pub refused_alike : (created c name).1 ≡ c → (created d name).1 ≡ d
+    refused_alike same =
+        ap (λ n. (made d (nat_le max_caches n)).1) (length_alike c.caches d.caches alike.names) ∙ unmade (nat_le max_caches (length c.caches)) same
 
     alike_counted : (o : Option ℤ) → AreAlike (counted c o).1 (counted d o).1
     alike_counted None = alike
