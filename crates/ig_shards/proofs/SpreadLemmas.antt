@@ -347,6 +347,14 @@ any_default (rows ∷ all) (suc i) d e within = any_default all i d e (within_re
 at_zero : (a i : ℕ) → i ≡ a → a ≡ 0 + i
 at_zero a i e = omega (arith, e)
 
+some_value : (o : Option Pair) (v : Value) → option_map (λ (row : Pair). row.value) o ≡ Some v → is_some o ≡ true
+some_value None v is = absurd (cc)
+some_value (Some row) v is = refl
+
+no_value : (o : Option Pair) → option_map (λ (row : Pair). row.value) o ≡ None → is_some o ≡ false
+no_value None is = refl
+no_value (Some row) is = absurd (cc)
+
 module _ (shards i : ℕ) (key : Value) (all : List Rows) (d : Rows) (spread : AreSpreadFrom shards 0 all) (is : i ≡ shard_of shards (Canon key)) (within : i < length all) where
   at : shard_of shards (Canon key) ≡ 0 + i
   at = at_zero (shard_of shards (Canon key)) i is
@@ -367,3 +375,10 @@ module _ (shards i : ℕ) (key : Value) (all : List Rows) (d : Rows) (spread : A
   spread_here change new leaves =
       subst (λ (r : Rows). AreSpreadFrom shards 0 (set all i r)) (sym (leaves ∙ ap (λ (r : Rows). changed r key change) (any_default all i d finite.empty within)))
       (spread_changed shards 0 i key change all spread at)
+
+  -- so a value that the key has here is one that it has in all, and where it has none it has none
+  pub has_here : (v : Value) → value_of (get_or all i d) key ≡ Some v → has_row (union all) key ≡ true
+  has_here v is = ap is_some (sym row_here) ∙ some_value (row_of (get_or all i d) key) v is
+
+  pub none_here : value_of (get_or all i d) key ≡ None → has_row (union all) key ≡ false
+  none_here is = ap is_some (sym row_here) ∙ no_value (row_of (get_or all i d) key) is
