@@ -1,16 +1,24 @@
 -- Putting several rows: rows are put first under keys that have none, and taken out again or written.
-use Rattle.std.proofs.Common.{◌≡◌, ◌<◌, ◌⊎◌, ◌+◌, ◌++◌, ◌&&◌, ◌||◌, ℕ, zero, suc, Bool, true, false, cond, List, [], ◌∷◌, length, take, drop, get_or, Option, None, Some, is_some, refl, sym, ap, ◌∙◌, subst, inl, inr, arith}
+use Rattle.std.proofs.Common.{◌≡◌, ◌<◌, ◌≤◌, ◌⊎◌, ◌+◌, ◌++◌, ◌&&◌, ◌||◌, ℕ, zero, suc, Bool, true, false, cond, List, [], ◌∷◌, length, take, drop, get_or, Option, None, Some, is_some, refl, sym, ap, ◌∙◌, subst, subst₂, inl, inr, length-append, arith, rules, ℤ, pos, w32, FitsSigned, Result, Ok, Err, OnOk}
 use Rattle.std.proofs.lemmas.Bool.{cases_Bool, cond-true, cond-false}
 use Rattle.std.specs.Cmp.Lexicographic.{nat_list_cmp_total}
 use Rattle.std.specs.FinMap as finite
+use Rattle.ig_base.proofs.NumberLemmas.{length-LE_32}
+use Rattle.ig_value.proofs.FoldLemmas.{Canon_out}
 use Rattle.ig_value.specs.declared.value.Value.{Value}
-use Rattle.ig_value.specs.Canon.{Canon}
+use Rattle.ig_value.specs.declared.value.Value.TheVariants as value
+use Rattle.ig_value.specs.declared.value.Value.TheOpen.{Value-F}
+use Rattle.ig_value.specs.Limits.{Fits, FitsPart, FitsTo}
+use Rattle.ig_value.specs.Table.{content, parts}
+use Rattle.ig_value.specs.Canon.{Canon, layer_bytes}
 use Rattle.ig_caches.specs.declared.call.Pair.{Pair}
+use Rattle.ig_caches.specs.IsRunnable.{IsItem}
 use Rattle.ig_caches.specs.Rows.{Rows, has_row, with_row, without_row, with_rows}
 use Rattle.ig_caches.specs.Reserved.{has_key}
+use Rattle.ig_caches.proofs.ItemLemmas.{taken_at}
 use Rattle.ig_caches.proofs.RowEntryLemmas.{ties, tied_same, same_tied, same_rows}
 use Rattle.ig_caches.proofs.ReserveLemmas.{same_written, written_keeps}
-use Rattle.ig_shards.specs.Marks.{is_marked, AreNew, IsMarked, HasRows}
+use Rattle.ig_shards.specs.Marks.{is_marked, AreNew, IsMarked, HasRows, IsReserved, IsLeft}
 
 or_none : (b : Bool) → (b || false) ≡ b
 or_none true = refl
@@ -189,3 +197,77 @@ written_over_marked old now marks pairs all = same_written pairs now old (λ q. 
   | inl same ↦ inl same
   | inr it ↦ inr (marked_named marks pairs q it)
 ])
+
+-- ---- a key at an index is reserved
+module _ (old now new : Rows) (marks next : List Bool) (pairs : List Pair) (i : ℕ) (pair : Pair) (count : length marks ≡ i) (within : i < length pairs) (is : pair ≡ get_or pairs i pair)
+    (all : IsMarked old now marks pairs) (fresh : AreNew old marks pairs) where
+  in_marks : length marks < length pairs
+  in_marks = omega (arith, count, within)
+
+  at_marks : pair ≡ get_or pairs (length marks) pair
+  at_marks = is ∙ ap (λ n. get_or pairs n pair) (sym count)
+
+  new_with : (mark : Bool) → (mark ≡ true → has_row now pair.key ≡ false) → AreNew old (marks ++ mark ∷ []) pairs
+  new_with mark absent = new_push old now marks mark pairs pair pair in_marks at_marks absent all fresh
+
+  next_taken : take (i + 1) pairs ≡ take i pairs ++ pair ∷ []
+  next_taken = taken_at pairs i pair within is
+
+  pub reserved_count : IsReserved now new marks next pair.key → length next ≡ i + 1
+  reserved_count (inl r) = omega (arith, count, ap length r.2, length-append marks (false ∷ []))
+  reserved_count (inr r) = omega (arith, count, ap length r.4, length-append marks (true ∷ []))
+
+  pub reserved_marked : IsReserved now new marks next pair.key → IsMarked old new next pairs
+  reserved_marked (inl r) = subst₂ (λ (n : Rows) (ms : List Bool). IsMarked old n ms pairs) (sym r.1) (sym r.2) (marked_more old now marks false pairs pair pair in_marks at_marks all)
+  reserved_marked (inr r) = subst₂ (λ (n : Rows) (ms : List Bool). IsMarked old n ms pairs) (sym r.3) (sym r.4) (marked_put old now marks pairs pair r.0 pair in_marks at_marks r.1 all)
+
+  pub reserved_new : IsReserved now new marks next pair.key → AreNew old next pairs
+  reserved_new (inl r) = subst (λ (ms : List Bool). AreNew old ms pairs) (sym r.2) (new_with false (λ e. absurd (cc)))
+  reserved_new (inr r) = subst (λ (ms : List Bool). AreNew old ms pairs) (sym r.4) (new_with true (λ e. r.2))
+
+  pub reserved_stand : IsReserved now new marks next pair.key → HasRows now (take i pairs) → HasRows new (take (i + 1) pairs)
+  reserved_stand (inl r) stand = subst₂ HasRows (sym r.1) (sym next_taken) (has_push now (take i pairs) pair stand r.0)
+  reserved_stand (inr r) stand =
+      subst₂ HasRows (sym r.3) (sym next_taken)
+      (has_push (with_row now r.0) (take i pairs) pair (has_with now (take i pairs) r.0 stand) (has_put now r.0 pair.key r.1))
+
+  -- without memory, too, it is marked only where there is no row
+  pub left_marked : IsLeft now new marks next pair.key → IsMarked old new next pairs
+  left_marked l = elim l.1 [
+    | inl kept ↦ subst₂ (λ (n : Rows) (ms : List Bool). IsMarked old n ms pairs) (sym l.0) (sym kept) all
+    | inr more ↦
+        subst₂ (λ (n : Rows) (ms : List Bool). IsMarked old n ms pairs) (sym l.0) (sym more.1) (marked_more old now marks true pairs pair pair in_marks at_marks all)
+  ]
+
+  pub left_new : IsLeft now new marks next pair.key → AreNew old next pairs
+  left_new l = elim l.1 [
+    | inl kept ↦ subst (λ (ms : List Bool). AreNew old ms pairs) (sym kept) fresh
+    | inr more ↦ subst (λ (ms : List Bool). AreNew old ms pairs) (sym more.1) (new_with true (λ e. more.0))
+  ]
+
+  pub left_within : IsLeft now new marks next pair.key → length next ≤ length pairs
+  left_within l = elim l.1 [
+    | inl kept ↦ omega (arith, count, within, ap length kept)
+    | inr more ↦ omega (arith, count, within, ap length more.1, length-append marks (true ∷ []))
+  ]
+
+-- one more row is written after the others
+pub written_push : (pairs : List Pair) (pair : Pair) (rows : Rows) → with_rows rows (pairs ++ pair ∷ []) ≡ with_row (with_rows rows pairs) pair
+written_push [] pair rows = refl
+written_push (first ∷ pairs) pair rows = written_push pairs pair (with_row rows first)
+
+-- ---- a value that stands for none
+int_long : (x : ℤ) → length (Canon (value.Int x)) ≡ 5
+int_long x = ap length (Canon_out (value.Int x) ∙ ap (layer_bytes Canon) (value.outs-Int x)) ∙ ap (λ n. suc n) (length-LE_32 x)
+
+int_fits : (x : ℤ) → FitsSigned w32 x → Fits (value.Int x)
+unfolding Fits
+int_fits x range = subst (λ (o : Value-F Value). FitsPart (FitsTo 31) (content (parts o).0) (parts o).1) (sym (value.outs-Int x)) range
+
+pub none_item : IsItem (value.Int (pos 0))
+none_item = record { present = λ e. cc; fits = int_fits (pos 0) (search rules); sendable = omega (arith, int_long (pos 0)) }
+
+-- what follows of a result that isn't an error
+pub on_ok : {A E P Q : Type 0} (r : Result A E) → (P → Q) → OnOk r P → OnOk r Q
+on_ok (Ok x) f p = f p
+on_ok (Err e) f p = tt

@@ -1,13 +1,14 @@
 -- Putting several rows: a row is put first under each key that has none, and these keys are marked.
-use Rattle.std.specs.Prelude.{◌≡◌, ◌⊎◌, ℕ, Bool, true, false, ◌&&◌, ◌||◌, List, [], ◌∷◌, None, is_some}
+use Rattle.std.specs.Prelude.{◌≡◌, ◌⊎◌, ℕ, Bool, true, false, ◌&&◌, ◌||◌, List, [], ◌∷◌, ◌++◌, None, is_some}
 use Rattle.std.specs.Ordering.{nat_cmp, eq_by_cmp}
 use Rattle.std.specs.Cmp.Lexicographic.{slice_cmp}
 use Rattle.std.specs.FinMap as finite
+use Rattle.ig_value.specs.declared.value.Value.{Value}
 use Rattle.ig_value.specs.Canon.{Canon}
 use Rattle.ig_caches.specs.declared.call.Call.{Call}
 use Rattle.ig_caches.specs.declared.call.Call.TheVariants.{GetAll, PutAll, ContainsKeys, ClearKeys, RemoveKeys, Clear, RemoveAll, Scan, Size}
 use Rattle.ig_caches.specs.declared.call.Pair.{Pair}
-use Rattle.ig_caches.specs.Rows.{Rows, has_row}
+use Rattle.ig_caches.specs.Rows.{Rows, has_row, with_row}
 use Rattle.ig_caches.specs.Reserved.{has_key}
 
 -- tests whether the bytes are the canonical encoding of a marked key
@@ -27,6 +28,16 @@ IsMarked old new marks pairs = (form : List ℕ) → (finite.get new form ≡ fi
 -- each key of the pairs has a row
 abbrev pub HasRows : Rows → List Pair → Type 0
 HasRows rows pairs = (form : List ℕ) → has_key pairs form ≡ true → is_some (finite.get rows form) ≡ true
+
+-- a key that has a row is not marked; one that has none is marked, and a row is put under it
+abbrev pub IsReserved : Rows → Rows → List Bool → List Bool → Value → Type 0
+IsReserved old new before marks key =
+    ((has_row old key ≡ true) × (new ≡ old) × (marks ≡ before ++ false ∷ []))
+    ⊎ ((row : Pair) × (row.key ≡ key) × (has_row old key ≡ false) × (new ≡ with_row old row) × (marks ≡ before ++ true ∷ []))
+
+-- no row is put, and the key is marked only if it has none
+abbrev pub IsLeft : Rows → Rows → List Bool → List Bool → Value → Type 0
+IsLeft old new before marks key = (new ≡ old) × ((marks ≡ before) ⊎ ((has_row old key ≡ false) × (marks ≡ before ++ true ∷ [])))
 
 -- a call on several rows of a cache, or on all
 abbrev pub IsOnSeveral : Call → Type 0

@@ -1,13 +1,13 @@
 //! Calls on several rows of a cache, and on all of them, over all shards.
 
-ghost use Rattle.std.specs.Prelude.{◌≡◌, ◌≤◌, [], length, All, IfOk, OnOk, OnErr, IfErr};
+ghost use Rattle.std.specs.Prelude.{◌≡◌, ◌≤◌, [], length, if◌then◌else◌, All, IfOk, OnOk, OnErr, IfErr};
 ghost use Rattle.std.specs.List.{list_all};
 ghost use Rattle.ig_caches.specs.IsRunnable.{IsItem, IsRow, IsRunnable};
 ghost use Rattle.ig_caches.specs.declared.call.Pair.{Pair};
-ghost use Rattle.ig_caches.specs.Rows.{Rows, has_row, with_row, without_rows, with_rows, rows_of};
+ghost use Rattle.ig_caches.specs.Rows.{Rows, has_row, with_row, without_row, without_rows, with_rows, rows_of};
 ghost use Rattle.ig_caches.specs.RunsOnRows.{IsOnRows, RunsOnRows};
 ghost use Rattle.ig_caches.specs.declared.call.Call.TheVariants.{GetAll, PutAll, ContainsKeys, ClearKeys, RemoveKeys, Clear, RemoveAll, Scan, Size};
-ghost use Rattle.ig_shards.specs.Marks.{IsMarked, AreNew, HasRows, IsOnSeveral};
+ghost use Rattle.ig_shards.specs.Marks.{IsMarked, AreNew, HasRows, IsReserved, IsLeft, IsOnSeveral};
 
 use crate::spread_rows::SpreadRows;
 use ig_base::{Items, NoMemory, NoRoom, Octets};
@@ -67,13 +67,25 @@ impl SpreadRows {
         ensures count { self.new.0 ≡ self.old.0 }
     {
         for pair in pairs {
-            let new = !self.has(&pair.key);
-            marks.push(new)?;
-            if new {
-                self.put_none(&pair.key)?;
-            }
+            self.reserve_one(&pair.key, marks)?;
         }
         Ok(())
+    }
+
+    /// Puts a row under the key if it has none, and marks whether it had none. When out of memory, no row
+    /// is put, but the key may be marked if it has none.
+    fn reserve_one(&mut self, key: &Value, marks: &mut Vec<bool>) -> Result<(), NoMemory>
+        requires { IsItem key.now }
+        ensures ok { OnOk result (IsReserved self.old.1 self.new.1 marks.old.items marks.new.items key.now) }
+        ensures err { OnErr result (IsLeft self.old.1 self.new.1 marks.old.items marks.new.items key.now) }
+        ensures count { self.new.0 ≡ self.old.0 }
+    {
+        if self.has(key) {
+            marks.push(false)?;
+            return Ok(());
+        }
+        marks.push(true)?;
+        self.put_none(key)
     }
 
     /// Puts a row with a value that stands for none.
@@ -96,9 +108,16 @@ impl SpreadRows {
             → self.new ≡ (self.old.0, old) }
     {
         for at in 0..marks.len() {
-            if marks[at] {
-                self.remove(&pairs[at].key);
-            }
+            self.release_one(&pairs[at].key, marks[at]);
+        }
+    }
+
+    /// Removes the row of the key if it is marked. Takes no memory.
+    fn release_one(&mut self, key: &Value, mark: bool)
+        ensures { self.new ≡ (self.old.0, if mark then without_row self.old.1 key.now else self.old.1) }
+    {
+        if mark {
+            self.remove(key);
         }
     }
 
