@@ -1,15 +1,20 @@
 -- Merging the ordered rows of two.
-use Rattle.std.proofs.Common.{◌≡◌, ◌<◌, ◌≤◌, ◌+◌, ◌⊎◌, T, ◌&&◌, ℕ, zero, suc, Bool, true, false, List, [], ◌∷◌, ◌++◌, length, take, drop, Option, None, Some, refl, sym, ap, ap₂, ◌∙◌, subst, inl, inr, append-nil, arith}
+use Rattle.std.proofs.Common.{◌≡◌, ◌<◌, ◌≤◌, ◌+◌, ◌⊎◌, T, ◌&&◌, ℕ, zero, suc, Bool, true, false, List, [], ◌∷◌, ◌++◌, length, take, drop, Option, None, Some, refl, sym, ap, ap₂, ◌∙◌, subst, subst₂, All, inl, inr, append-nil, arith}
 use Rattle.std.proofs.lemmas.Bool.{cases_Bool, cond-true, cond-false}
-use Rattle.std.proofs.lemmas.List.{append_assoc, nil_from_length, take-append-drop}
+use Rattle.std.proofs.Math.ListN.{drop_of_length-le}
+use Rattle.std.proofs.lemmas.List.{append_assoc, nil_from_length, take-append-drop, map-append, map_push}
+use Rattle.std.proofs.lemmas.List.Elements.{All-head, All-tail}
 use Rattle.std.specs.Cmp.Lexicographic.{nat_list_cmp_total}
 use Rattle.std.specs.declared.cmp.Ordering.{Ordering}
 use Rattle.std.specs.declared.cmp.Ordering.TheVariants.{Less, Equal, Greater}
 use Rattle.std.specs.Ordering.{is_lt, ordering_reverse}
+use Rattle.std.specs.Borrow.{Bor}
 use Rattle.std.specs.FinMap as finite
 use Rattle.std.specs.FinMap.Entries.{below_all, by_order}
+use Rattle.ig_value.specs.declared.value.Value.{Value}
 use Rattle.ig_caches.specs.declared.call.Pair.{Pair}
 use Rattle.ig_caches.specs.Rows.{Rows}
+use Rattle.ig_caches.specs.LentRows.{lent_row, lent_rows}
 use Rattle.ig_caches.proofs.RowEntryLemmas.{by_bytes, ties, exact, same_tied, same_rows}
 use Rattle.ig_shards.specs.ShardOf.{shard_of}
 use Rattle.ig_shards.specs.Spread.{either, union, AreSpreadFrom}
@@ -211,6 +216,49 @@ merge_end_left merged left whole m =
     append-nil (merged ++ left)
     ∙ ap (λ (l : Entries). merged ++ l) (sym (own_entries left (sorted_left merged left [] whole m)) ∙ ap (λ (l : Entries). finite.entries (finite.from_entries {R = by_bytes} l)) (sym (append-nil left)))
     ∙ ap₂ (λ (l r : Entries). merged ++ finite.entries (finite.from_entries {R = by_bytes} (l ++ r))) m.of_left m.of_right ∙ m.whole_is
+
+-- ---- merging rows that are lent
+abbrev pub Lent : Type 0
+Lent = Bor (List ℕ) × Bor Value
+
+-- what holds of all entries holds of the one at an index
+pub all_at : (P : Lent → Type 0) (es rest : List Lent) (i : ℕ) (e : Lent) → drop i es ≡ e ∷ rest → All P es → P e
+all_at P [] rest zero e at all = absurd (cc)
+all_at P [] rest (suc i) e at all = absurd (cc)
+all_at P (x ∷ es) rest zero e at all = let it : x ≡ e = cc in subst P it (All-head P x es all)
+all_at P (x ∷ es) rest (suc i) e at all = all_at P es rest i e at (All-tail P x es all)
+
+module _ (left right merged : List Lent) (i j : ℕ) (x y : Lent) (whole : Entries) (at_left : drop i left ≡ x ∷ drop (i + 1) left) (at_right : drop j right ≡ y ∷ drop (j + 1) right)
+    (m : Merges (lent_rows merged) (lent_rows (drop i left)) (lent_rows (drop j right)) whole) where
+  heads_of : Merges (lent_rows merged) (lent_row x ∷ lent_rows (drop (i + 1) left)) (lent_row y ∷ lent_rows (drop (j + 1) right)) whole
+  heads_of = subst₂ (λ (l r : List Lent). Merges (lent_rows merged) (lent_rows l) (lent_rows r) whole) at_left at_right m
+
+  pub step_right : is_lt (by_bytes y.0.now x.0.now) ≡ true → Merges (lent_rows (merged ++ y ∷ [])) (lent_rows (drop i left)) (lent_rows (drop (j + 1) right)) whole
+  step_right less =
+      subst₂ (λ (ms l : Entries). Merges ms l (lent_rows (drop (j + 1) right)) whole) (sym (map_push lent_row merged y)) (ap lent_rows (sym at_left))
+      (merge_right (lent_rows merged) (lent_rows (drop (i + 1) left)) (lent_rows (drop (j + 1) right)) whole (lent_row x) (lent_row y) less heads_of)
+
+  pub step_left : is_lt (by_bytes y.0.now x.0.now) ≡ false → Merges (lent_rows (merged ++ x ∷ [])) (lent_rows (drop (i + 1) left)) (lent_rows (drop j right)) whole
+  step_left more =
+      subst₂ (λ (ms r : Entries). Merges ms (lent_rows (drop (i + 1) left)) r whole) (sym (map_push lent_row merged x)) (ap lent_rows (sym at_right))
+      (merge_left (lent_rows merged) (lent_rows (drop (i + 1) left)) (lent_rows (drop (j + 1) right)) whole (lent_row x) (lent_row y) more heads_of)
+
+-- the rows that are left of one come after those that were merged
+pub merged_end : (merged left right : List Lent) (whole : Entries) → (left ≡ []) ⊎ (right ≡ []) → Merges (lent_rows merged) (lent_rows left) (lent_rows right) whole
+    → lent_rows ((merged ++ left) ++ right) ≡ whole
+merged_end merged left right whole (inl none) m =
+    let more : lent_rows ((merged ++ left) ++ right) ≡ (lent_rows merged ++ []) ++ lent_rows right =
+    ap (λ (l : List Lent). lent_rows ((merged ++ l) ++ right)) none ∙ map-append lent_row (merged ++ []) right ∙ ap (λ (l : Entries). l ++ lent_rows right) (map-append lent_row merged []) in
+    more ∙ merge_end_right (lent_rows merged) (lent_rows right) whole (subst (λ (l : List Lent). Merges (lent_rows merged) (lent_rows l) (lent_rows right) whole) none m)
+merged_end merged left right whole (inr none) m =
+    let more : lent_rows ((merged ++ left) ++ right) ≡ (lent_rows merged ++ lent_rows left) ++ [] =
+    ap (λ (l : List Lent). lent_rows ((merged ++ left) ++ l)) none ∙ map-append lent_row (merged ++ left) [] ∙ ap (λ (l : Entries). l ++ []) (map-append lent_row merged left) in
+    more ∙ merge_end_left (lent_rows merged) (lent_rows left) whole (subst (λ (l : List Lent). Merges (lent_rows merged) (lent_rows left) (lent_rows l) whole) none m)
+
+-- one of two places is past the end of its list
+pub one_done : (left right : List Lent) (i j : ℕ) → (length left ≤ i) ⊎ (length right ≤ j) → (drop i left ≡ []) ⊎ (drop j right ≡ [])
+one_done left right i j (inl past) = inl (drop_of_length-le left past)
+one_done left right i j (inr past) = inr (drop_of_length-le right past)
 
 -- ---- the rows of some shards
 pub spread_placed : (shards next : ℕ) (all : List Rows) → AreSpreadFrom shards next all → ArePlacedFrom shards next all

@@ -1,6 +1,8 @@
 //! The rows of all shards, in the order of the canonical encodings of their keys.
 
-ghost use Rattle.std.specs.Prelude.{◌≡◌, ◌++◌, ℕ, All, IfOk, OnOk};
+ghost use Rattle.std.specs.Prelude.{◌≡◌, ◌<◌, ◌+◌, ◌^◌, ◌++◌, ℕ, All, if◌then◌else◌, IfOk, OnOk};
+ghost use Rattle.std.specs.Cmp.Lexicographic.{slice_cmp};
+ghost use Rattle.std.specs.Ordering.{nat_cmp, is_lt};
 ghost use Rattle.std.specs.FinMap as finite;
 ghost use Rattle.ig_caches.specs.LentRows.{lent_rows, HasKey};
 ghost use Rattle.ig_caches.specs.Rows.{Rows, all_rows};
@@ -25,6 +27,24 @@ fn append<'a>(rows: &mut Entries<'a>, more: &[(&'a [u8], &'a Value)]) -> Result<
     Ok(())
 }
 
+/// Of the entries at these places of two lists that are merged, the one with the lesser bytes, and the
+/// places after it.
+fn first<'a>(
+    left: (&'a [u8], &'a Value),
+    at: usize,
+    right: (&'a [u8], &'a Value),
+    next: usize,
+) -> ((&'a [u8], &'a Value), usize, usize)
+    requires { (at < 2 ^ 63) × (next < 2 ^ 63) }
+    ensures { result ≡ (if is_lt (slice_cmp nat_cmp right.entry.0.now left.entry.0.now)
+        then (right.entry, at, next + 1) else (left.entry, at + 1, next)) }
+{
+    if right.0.cmp(&left.0).is_lt() {
+        return (right, at, next + 1);
+    }
+    (left, at + 1, next)
+}
+
 /// The rows of both, in order.
 fn merged<'a>(
     alloc: Global,
@@ -40,13 +60,10 @@ fn merged<'a>(
     let mut at = 0;
     let mut next = 0;
     while at < left.len() && next < right.len() {
-        if right[next].0 < left[at].0 {
-            merged.push(right[next])?;
-            next += 1;
-        } else {
-            merged.push(left[at])?;
-            at += 1;
-        }
+        let (entry, later_at, later_next) = first(left[at], at, right[next], next);
+        merged.push(entry)?;
+        at = later_at;
+        next = later_next;
     }
     append(&mut merged, &left[at..])?;
     append(&mut merged, &right[next..])?;
