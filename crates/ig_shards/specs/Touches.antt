@@ -1,5 +1,5 @@
 -- Which shards a call touches.
-use Rattle.std.specs.Prelude.{ℕ}
+use Rattle.std.specs.Prelude.{ℕ, ◌<◌}
 use Rattle.ig_caches.specs.declared.call.Call.{Call}
 use Rattle.ig_caches.specs.declared.call.Call.TheVariants.{Get, GetAndRemove, ContainsKey, ClearKey, RemoveKey, Put, PutIfAbsent, GetAndPut, GetAndReplace, GetAndPutIfAbsent, Replace, ReplaceIfEquals, RemoveIfEquals, TypeName, SetTypeName, TypeOf, PutType, Affinity}
 use Rattle.ig_shards.specs.declared.touch.Touched.{Touched}
@@ -27,3 +27,8 @@ touches (TypeOf type) shards = One 0
 touches (PutType meta) shards = One 0
 touches (Affinity ids) shards = One 0
 touches _ shards = All
+
+-- the touched shard is one of as many
+abbrev pub IsWithin : Touched → ℕ → Type 0
+IsWithin (One shard) shards = shard < shards
+IsWithin All shards = Unit {0}

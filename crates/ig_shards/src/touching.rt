@@ -2,7 +2,7 @@
 
 ghost use Rattle.std.specs.Prelude.{◌≡◌, ◌<◌, IfOk};
 ghost use Rattle.ig_caches.specs.IsRunnable.{IsRunnable};
-ghost use Rattle.ig_shards.specs.Touches.{touches};
+ghost use Rattle.ig_shards.specs.Touches.{touches, IsWithin};
 
 use crate::place::shard_of_key;
 use crate::touch::Touched;
@@ -13,7 +13,8 @@ use ig_caches::Call;
 /// all. Takes no memory, so it never fails.
 pub fn touched(call: &Call, shards: u32) -> Result<Touched, NoMemory>
     requires some { 0 < shards }
-    ensures { IfOk result (λ touched. touched ≡ touches call.now shards) }
+    ensures touched { IfOk result (λ touched. touched ≡ touches call.now shards) }
+    ensures within { IfOk result (λ touched. IsWithin touched shards) }
 {
     Ok(touched_by(call, shards))
 }
@@ -21,7 +22,8 @@ pub fn touched(call: &Call, shards: u32) -> Result<Touched, NoMemory>
 /// The same.
 pub(crate) fn touched_by(call: &Call, shards: u32) -> Touched
     requires { 0 < shards }
-    ensures { result ≡ touches call.now shards }
+    ensures touched { result ≡ touches call.now shards }
+    ensures within { IsWithin result shards }
 {
     match call {
         Call::Get { key, .. } => Touched::One(shard_of_key(key, shards)),

@@ -43,10 +43,10 @@ next_number m n = by (nat_cmp m n) (ranked m n (nat_cmp m n) refl) refl
     by Equal same is = ap (λ k. nat_cmp (suc m) k) (ap suc (sym same)) ∙ same_number (suc m) ∙ is
     by Greater more is = more_number (suc m) (suc n) (omega (arith, more)) ∙ is
 
-zero_not_more : (n : ℕ) → nat_cmp 0 n ≢ Greater
+zero_not_more : (n : ℕ) → nat_cmp 0 n ≡ Greater → ⊥
 zero_not_more n is = let more : n < 0 = ranked 0 n Greater (sym is) in omega (arith, more)
 
-none_not_less : (n : ℕ) → nat_cmp n 0 ≢ Less
+none_not_less : (n : ℕ) → nat_cmp n 0 ≡ Less → ⊥
 none_not_less n is = let less : n < 0 = ranked n 0 Less (sym is) in omega (arith, less)
 
 -- ---- lists
@@ -106,7 +106,7 @@ head_cmp n (x ∷ a) [] = Greater
 head_cmp zero (x ∷ a) (y ∷ b) = Equal
 head_cmp (suc n) (x ∷ a) (y ∷ b) = ordering_then (nat_cmp x y) (head_cmp n a b)
 
-low : (n : ℕ) (b : List ℕ) → by_bytes (padded n []) (padded n b) ≢ Greater
+low : (n : ℕ) (b : List ℕ) → by_bytes (padded n []) (padded n b) ≡ Greater → ⊥
 low zero b is = let never : Equal ≡ Greater = is in absurd (cc)
 low (suc n) [] is = low n [] (sym (ap (λ o. ordering_then o (by_bytes (padded n []) (padded n []))) (same_number 0)) ∙ is)
 low (suc n) (y ∷ b) is = by (nat_cmp 0 y) refl
@@ -116,7 +116,7 @@ low (suc n) (y ∷ b) is = by (nat_cmp 0 y) refl
     by Equal o = low n b (sym (ap (λ r. ordering_then r (by_bytes (padded n []) (padded n b))) o) ∙ is)
     by Greater o = zero_not_more y o
 
-high : (n : ℕ) (a : List ℕ) → by_bytes (padded n a) (padded n []) ≢ Less
+high : (n : ℕ) (a : List ℕ) → by_bytes (padded n a) (padded n []) ≡ Less → ⊥
 high zero a is = let never : Equal ≡ Less = is in absurd (cc)
 high (suc n) [] is = high n [] (sym (ap (λ o. ordering_then o (by_bytes (padded n []) (padded n []))) (same_number 0)) ∙ is)
 high (suc n) (x ∷ a) is = by (nat_cmp x 0) refl
