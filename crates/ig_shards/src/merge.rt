@@ -60,10 +60,10 @@ fn merged<'a>(
     let mut at = 0;
     let mut next = 0;
     while at < left.len() && next < right.len() {
-        let (entry, later_at, later_next) = first(left[at], at, right[next], next);
-        merged.push(entry)?;
-        at = later_at;
-        next = later_next;
+        let step = first(left[at], at, right[next], next);
+        merged.push(step.0)?;
+        at = step.1;
+        next = step.2;
     }
     append(&mut merged, &left[at..])?;
     append(&mut merged, &right[next..])?;

@@ -35,26 +35,26 @@ loop-next-at-preserved c =
     let it = c.loop-next-at.invariant in
     elim (cases_Bool test) [
       | inl less ↦
-          let is : ◌≡◌ {A = Lent × ℕ × ℕ} c.first.result (y, i, j + 1) = c.first.ensures ∙ cond-true test (y, i, j + 1) (x, i + 1, j) less in
+          let is : ◌≡◌ {A = Lent × ℕ × ℕ} c.first-step.result (y, i, j + 1) = c.first-step.ensures ∙ cond-true test (y, i, j + 1) (x, i + 1, j) less in
           record {
             of_left = subst (λ (r : Lent × ℕ × ℕ). r.1 ≤ length left) (sym is) it.of_left;
             of_right = subst (λ (r : Lent × ℕ × ℕ). r.2 ≤ length right) (sym is) (omega (arith, in_right));
             keys = subst (All HasKey) (sym c.in_ok-push.ensures.items)
-                (All-push HasKey merged c.first.result.0 it.keys (subst (λ (r : Lent × ℕ × ℕ). HasKey r.0) (sym is) (all_at HasKey right (drop (j + 1) right) j y at_right c.requires.1)));
+                (All-push HasKey merged c.first-step.result.0 it.keys (subst (λ (r : Lent × ℕ × ℕ). HasKey r.0) (sym is) (all_at HasKey right (drop (j + 1) right) j y at_right c.requires.1)));
             rows = λ a b of_left of_right apart.
-                subst (λ (l : List Lent). Merges (lent_rows l) (lent_rows (drop c.first.result.1 left)) (lent_rows (drop c.first.result.2 right)) (finite.entries (either a b))) (sym c.in_ok-push.ensures.items)
+                subst (λ (l : List Lent). Merges (lent_rows l) (lent_rows (drop c.first-step.result.1 left)) (lent_rows (drop c.first-step.result.2 right)) (finite.entries (either a b))) (sym c.in_ok-push.ensures.items)
                 (subst (λ (r : Lent × ℕ × ℕ). Merges (lent_rows (merged ++ r.0 ∷ [])) (lent_rows (drop r.1 left)) (lent_rows (drop r.2 right)) (finite.entries (either a b))) (sym is)
                 (step_right left right merged i j x y (finite.entries (either a b)) at_left at_right (it.rows a b of_left of_right apart) less));
           }
       | inr more ↦
-          let is : ◌≡◌ {A = Lent × ℕ × ℕ} c.first.result (x, i + 1, j) = c.first.ensures ∙ cond-false test (y, i, j + 1) (x, i + 1, j) more in
+          let is : ◌≡◌ {A = Lent × ℕ × ℕ} c.first-step.result (x, i + 1, j) = c.first-step.ensures ∙ cond-false test (y, i, j + 1) (x, i + 1, j) more in
           record {
             of_left = subst (λ (r : Lent × ℕ × ℕ). r.1 ≤ length left) (sym is) (omega (arith, in_left));
             of_right = subst (λ (r : Lent × ℕ × ℕ). r.2 ≤ length right) (sym is) it.of_right;
             keys = subst (All HasKey) (sym c.in_ok-push.ensures.items)
-                (All-push HasKey merged c.first.result.0 it.keys (subst (λ (r : Lent × ℕ × ℕ). HasKey r.0) (sym is) (all_at HasKey left (drop (i + 1) left) i x at_left c.requires.0)));
+                (All-push HasKey merged c.first-step.result.0 it.keys (subst (λ (r : Lent × ℕ × ℕ). HasKey r.0) (sym is) (all_at HasKey left (drop (i + 1) left) i x at_left c.requires.0)));
             rows = λ a b of_left of_right apart.
-                subst (λ (l : List Lent). Merges (lent_rows l) (lent_rows (drop c.first.result.1 left)) (lent_rows (drop c.first.result.2 right)) (finite.entries (either a b))) (sym c.in_ok-push.ensures.items)
+                subst (λ (l : List Lent). Merges (lent_rows l) (lent_rows (drop c.first-step.result.1 left)) (lent_rows (drop c.first-step.result.2 right)) (finite.entries (either a b))) (sym c.in_ok-push.ensures.items)
                 (subst (λ (r : Lent × ℕ × ℕ). Merges (lent_rows (merged ++ r.0 ∷ [])) (lent_rows (drop r.1 left)) (lent_rows (drop r.2 right)) (finite.entries (either a b))) (sym is)
                 (step_left left right merged i j x y (finite.entries (either a b)) at_left at_right (it.rows a b of_left of_right apart) more));
           }
