@@ -57,9 +57,17 @@ impl Spelling {
         ensures items { IfOk result (λ s. s.items ≡ bytes.now) }
         ensures short { length bytes.now ≤ short → IsOk result }
     {
-        let mut spelling = Spelling::empty(alloc);
-        spelling.set(bytes)?;
-        Ok(spelling)
+        let front = front::front_of(bytes);
+        if bytes.len() <= PLACES {
+            return Ok(Spelling {
+                front,
+                bytes: Vec::new(alloc),
+            });
+        }
+        Ok(Spelling {
+            front,
+            bytes: Vec::from_slice(alloc, bytes)?,
+        })
     }
 
     /// Becomes a copy of these bytes. Takes no memory if they are at most [`SHORT`], or if it had as many
