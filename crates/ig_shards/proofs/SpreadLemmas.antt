@@ -1,7 +1,9 @@
 -- Rows that are spread over shards, as the rows of all.
-use Rattle.std.proofs.Common.{◌≡◌, ◌<◌, ◌≤◌, ◌⊎◌, ◌+◌, T, ◌&&◌, sum_by, All, ℕ, zero, suc, Bool, true, false, cond, List, [], ◌∷◌, ◌++◌, length, get_or, set, Option, None, Some, refl, sym, ap, ap₂, ◌∙◌, subst, inl, inr, arith, option_map, is_some}
+use Rattle.std.proofs.Common.{◌≡◌, ◌<◌, ◌≤◌, ◌⊎◌, ◌+◌, T, ◌&&◌, sum_by, All, ℕ, zero, suc, Bool, true, false, cond, List, [], ◌∷◌, ◌++◌, length, get_or, set, take, drop, append-nil, Option, None, Some, refl, sym, ap, ap₂, ◌∙◌, subst, inl, inr, arith, option_map, is_some}
 use Rattle.std.proofs.lemmas.Bool.{cases_Bool, cond-true, cond-false}
 use Rattle.std.specs.Cmp.Lexicographic.{nat_list_cmp_total}
+use Rattle.std.proofs.Math.ListN.{drop_of_length-le}
+use Rattle.std.proofs.lemmas.List.{take_all}
 use Rattle.std.proofs.lemmas.List.Elements.{All-head, All-tail}
 use Rattle.std.proofs.lemmas.List.Sums.{sum_by-cons}
 use Rattle.std.specs.declared.cmp.Ordering.{Ordering}
@@ -382,3 +384,9 @@ module _ (shards i : ℕ) (key : Value) (all : List Rows) (d : Rows) (spread : A
 
   pub none_here : value_of (get_or all i d) key ≡ None → has_row (union all) key ≡ false
   none_here is = ap is_some (sym row_here) ∙ no_value (row_of (get_or all i d) key) is
+
+-- ---- a list that was lent and written
+-- as many items as there were take the place of all
+pub all_written : {X : Type 0} (new old : List X) (n : ℕ) → length new ≡ n → length old ≡ n → take n (new ++ drop (length new) old) ≡ new
+all_written {X} new old n many same =
+    ap (λ (l : List X). take n (new ++ l)) (drop_of_length-le old (omega (arith, many, same))) ∙ ap (take n) (append-nil new) ∙ take_all n new (omega (arith, many))

@@ -1,16 +1,9 @@
 use Rattle.std.proofs.Common.{◌≡◌, ◌++◌, ℕ, List, length, take, drop, append-nil, All, ap, sym, subst, ◌∙◌, rules, arith}
-use Rattle.std.proofs.Math.ListN.{drop_of_length-le}
-use Rattle.std.proofs.lemmas.List.{take_all}
 use Rattle.std.specs.FinMap as finite
 use Rattle.ig_caches.specs.Rows.{Rows}
 use Rattle.ig_shards.specs.Spread.{union, AreSpreadFrom}
-use Rattle.ig_shards.proofs.SpreadLemmas.{spread_none, union_none}
+use Rattle.ig_shards.proofs.SpreadLemmas.{spread_none, union_none, all_written}
 use Rattle.ig_shards.proofs.spread_rows.SpreadRows.clear.Goals as goal
-
--- as many items as there were take the place of all
-all_written : (new old : List Rows) (n : ℕ) → length new ≡ n → length old ≡ n → take n (new ++ drop (length new) old) ≡ new
-all_written new old n many same =
-    ap (λ (l : List Rows). take n (new ++ l)) (drop_of_length-le old (omega (arith, many, same))) ∙ ap (take n) (append-nil new) ∙ take_all n new (omega (arith, many))
 
 pub invariant_of-self : goal.invariant_of-self
 invariant_of-self c =
