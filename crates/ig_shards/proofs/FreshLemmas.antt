@@ -70,3 +70,7 @@ all_fresh names shards some few = record {
 pub fresh_together : (names : List (List ℕ)) (shards : ℕ) → 1 ≤ shards → together (fresh_parts names shards 0 shards) ≡ fresh_caches names
 fresh_together names zero some = absurd (omega (arith, some))
 fresh_together names (suc count) some = together_fresh names (suc count) 0 count
+
+pub fresh_length : (names : List (List ℕ)) (shards next count : ℕ) → length (fresh_parts names shards next count) ≡ count
+fresh_length names shards next zero = refl
+fresh_length names shards next (suc count) = ap suc (fresh_length names shards (suc next) count)

@@ -56,9 +56,9 @@ impl Shards {
         let mut parts = Vec::new(alloc);
         for number in 0..shards {
             let part = ShardRows::start(alloc, &names, number, shards)?;
-            if parts.push(part).is_err() {
+            let Ok(()) = parts.push(part) else {
                 return Err(StartFault::NoMemory);
-            }
+            };
         }
         Ok(Shards { alloc, parts })
     }
