@@ -124,7 +124,7 @@ turned merged left right whole m = record {
   b = m.a;
   of_left = m.of_right;
   of_right = m.of_left;
-  apart = λ q. elim (m.apart q) [ | inl none ↦ inr none | inr none ↦ inl none ];
+  apart = λ q. elim (m.apart q) [ inl none ↦ inr none | inr none ↦ inl none ];
   whole_is = ap (λ (r : Rows). merged ++ finite.entries r) (sym (either_turned m.a m.b m.apart)) ∙ m.whole_is;
 }
 

@@ -84,11 +84,10 @@ returns-in-One-clause-back c =
 pub run_on-requires-clause-touched : goal.run_on-requires-clause-touched
 run_on-requires-clause-touched c =
     let shards : ℕ = c.self.inside.parts.len in
-    let lent : List ShardRows = c.as_mut_slice.result.now in
-    (
+    let lent : List ShardRows = c.as_mut_slice.result.now in (
       shards,
       subst (λ (t : Touched). AreThose shards t (parts_of lent)) c.in-All.ensures.touched
-      (subst (λ (l : List ShardRows). AreAll shards (parts_of l)) (sym c.as_mut_slice.ensures.value) c.self.invariant),
+          (subst (λ (l : List ShardRows). AreAll shards (parts_of l)) (sym c.as_mut_slice.ensures.value) c.self.invariant),
     )
 
 pub invariant_of-self-in-All : goal.invariant_of-self-in-All

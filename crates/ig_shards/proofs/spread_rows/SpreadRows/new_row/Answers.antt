@@ -50,7 +50,7 @@ returns-clause-met c =
     let one : row_of here key ≡ row_of c.args.self.now.1 key =
     ap (λ (r : Rows). row_of r key) c.index_mut.ensures.value ∙ row_here shards i key all here c.self.invariant.2 is within ∙ ap (λ (v : ℕ × Rows). row_of v.1 key) c.self.view_is in
     subst (λ (b : Bool). OnOk c.new_row.result ((q : List ℕ) → is_among (λ k. k.items) c.new_row.new.met.keys q
-      ≡ (is_among (λ k. k.items) c.args.met.now.keys q || (ties q (Canon key) && b)))) (ap is_some one) c.new_row.ensures.met
+    ≡ (is_among (λ k. k.items) c.args.met.now.keys q || (ties q (Canon key) && b)))) (ap is_some one) c.new_row.ensures.met
 
 pub returns-clause-same : goal.returns-clause-same
 returns-clause-same c =

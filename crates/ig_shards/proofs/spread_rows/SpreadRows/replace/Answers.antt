@@ -40,7 +40,7 @@ returns c =
     let within : i < length all = omega (arith, c.shard_of_key-shard.ensures.within, count, c.self.inside.shards.ok.0) in
     let old : Rows = union all in
     let seen : ◌≡◌ {A = ℕ × Rows} (shards, cond (has_row old key) (with_row old c.args.row) old)
-      (c.args.self.now.0, cond (has_row c.args.self.now.1 key) (with_row c.args.self.now.1 c.args.row) c.args.self.now.1) =
+    (c.args.self.now.0, cond (has_row c.args.self.now.1 key) (with_row c.args.self.now.1 c.args.row) c.args.self.now.1) =
     ap (λ (v : ℕ × Rows). (v.0, cond (has_row v.1 key) (with_row v.1 c.args.row) v.1)) c.self.view_is in
     elim c.match-replace.branch [
       | in-Ok w ↦
