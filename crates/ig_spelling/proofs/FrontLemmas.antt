@@ -1,6 +1,6 @@
 -- Fronts as lists.
 use Rattle.std.proofs.Common.{◌≡◌, ◌≢◌, ◌<◌, ◌≤◌, ◌+◌, ℕ, zero, suc, min, Bool, true, false, List, [], ◌∷◌, ◌++◌, length, take, set, get_or, refl, sym, ap, ◌∙◌, subst, arith, inl, inr, ◌⊎◌, le-leb, leb-true, leb-false}
-use Rattle.std.proofs.Math.Nat.{suc-min-suc, min-eq_left, min-eq_right}
+use Rattle.std.proofs.Math.Nat.{suc-min-suc, zero-min, min-zero, min-eq_left, min-eq_right}
 use Rattle.std.specs.Prelude.{nat_le, if◌then◌else◌}
 use Rattle.ig_spelling.specs.Front.{padded, short, front_of, count_of, shown}
 
@@ -24,9 +24,12 @@ put_last zero bytes v = refl
 put_last (suc n) [] v = put_last_none (suc n) v
 put_last (suc n) (b ∷ bytes) v = ap (λ (bs : List ℕ). b ∷ bs) (put_last n bytes v)
 
+abbrev taken_from : List ℕ → List ℕ
+taken_from bytes = bytes
+
 pub take_few : (n : ℕ) (bytes : List ℕ) → take (min n (length bytes)) bytes ≡ take n bytes
-take_few zero bytes = refl
-take_few (suc n) [] = refl
+take_few zero bytes = ap (λ k. take k bytes) (zero-min (length bytes))
+take_few (suc n) [] = ap (λ k. take k (taken_from [])) (min-zero (suc n))
 take_few (suc n) (b ∷ bytes) = ap (λ k. take k (b ∷ bytes)) (suc-min-suc n (length bytes)) ∙ ap (λ (bs : List ℕ). b ∷ bs) (take_few n bytes)
 
 -- ---- what a front says

@@ -1,6 +1,6 @@
 -- The order of fronts, as that of the bytes.
 use Rattle.std.proofs.Common.{◌≡◌, ◌≢◌, ◌<◌, ◌≤◌, ◌+◌, ◌*◌, ℕ, zero, suc, min, List, [], ◌∷◌, ◌++◌, length, take, drop, Ordering, Less, Equal, Greater, nat_cmp, refl, sym, ap, ap₂, ◌∙◌, subst, arith, append_assoc, take-append-drop}
-use Rattle.std.proofs.Math.Nat.{suc-min-suc}
+use Rattle.std.proofs.Math.Nat.{suc-min-suc, zero-min, min-zero}
 use Rattle.std.specs.Ordering.{ordering_then, MatchOrdering, is_ne}
 use Rattle.std.specs.Cmp.{nat_cmp_is, ranked}
 use Rattle.std.specs.Cmp.Lexicographic.{slice_cmp}
@@ -99,7 +99,7 @@ spelt a b (x ∷ us) (y ∷ vs) e small other =
 
 -- ---- fronts
 -- the order by the first n bytes, and by whether there are more
-head_cmp : ℕ → List ℕ → List ℕ → Ordering
+abbrev pub head_cmp : ℕ → List ℕ → List ℕ → Ordering
 head_cmp n [] [] = Equal
 head_cmp n [] (y ∷ b) = Less
 head_cmp n (x ∷ a) [] = Greater
@@ -109,22 +109,22 @@ head_cmp (suc n) (x ∷ a) (y ∷ b) = ordering_then (nat_cmp x y) (head_cmp n a
 low : (n : ℕ) (b : List ℕ) → by_bytes (padded n []) (padded n b) ≡ Greater → ⊥
 low zero b is = let never : Equal ≡ Greater = is in absurd (cc)
 low (suc n) [] is = low n [] (sym (ap (λ o. ordering_then o (by_bytes (padded n []) (padded n []))) (same_number 0)) ∙ is)
-low (suc n) (y ∷ b) is = by (nat_cmp 0 y) refl
+low (suc n) (y ∷ b) is = by (λ e. low n b e) (nat_cmp 0 y) refl
   where
-    by : (o : Ordering) → nat_cmp 0 y ≡ o → ⊥
-    by Less o = let never : Less ≡ Greater = sym (ap (λ r. ordering_then r (by_bytes (padded n []) (padded n b))) o) ∙ is in absurd (cc)
-    by Equal o = low n b (sym (ap (λ r. ordering_then r (by_bytes (padded n []) (padded n b))) o) ∙ is)
-    by Greater o = zero_not_more y o
+    by : (by_bytes (padded n []) (padded n b) ≡ Greater → ⊥) → (o : Ordering) → nat_cmp 0 y ≡ o → ⊥
+    by later Less o = let never : Less ≡ Greater = sym (ap (λ r. ordering_then r (by_bytes (padded n []) (padded n b))) o) ∙ is in absurd (cc)
+    by later Equal o = later (sym (ap (λ r. ordering_then r (by_bytes (padded n []) (padded n b))) o) ∙ is)
+    by later Greater o = zero_not_more y o
 
 high : (n : ℕ) (a : List ℕ) → by_bytes (padded n a) (padded n []) ≡ Less → ⊥
 high zero a is = let never : Equal ≡ Less = is in absurd (cc)
 high (suc n) [] is = high n [] (sym (ap (λ o. ordering_then o (by_bytes (padded n []) (padded n []))) (same_number 0)) ∙ is)
-high (suc n) (x ∷ a) is = by (nat_cmp x 0) refl
+high (suc n) (x ∷ a) is = by (λ e. high n a e) (nat_cmp x 0) refl
   where
-    by : (o : Ordering) → nat_cmp x 0 ≡ o → ⊥
-    by Greater o = let never : Greater ≡ Less = sym (ap (λ r. ordering_then r (by_bytes (padded n a) (padded n []))) o) ∙ is in absurd (cc)
-    by Equal o = high n a (sym (ap (λ r. ordering_then r (by_bytes (padded n a) (padded n []))) o) ∙ is)
-    by Less o = none_not_less x o
+    by : (by_bytes (padded n a) (padded n []) ≡ Less → ⊥) → (o : Ordering) → nat_cmp x 0 ≡ o → ⊥
+    by later Greater o = let never : Greater ≡ Less = sym (ap (λ r. ordering_then r (by_bytes (padded n a) (padded n []))) o) ∙ is in absurd (cc)
+    by later Equal o = later (sym (ap (λ r. ordering_then r (by_bytes (padded n a) (padded n []))) o) ∙ is)
+    by later Less o = none_not_less x o
 
 then_less : (o : Ordering) → o ≢ Greater → ordering_then o Less ≡ Less
 then_less Less not = refl
@@ -137,16 +137,16 @@ then_more Equal not = refl
 then_more Greater not = refl
 
 counted_less : (n k : ℕ) → nat_cmp (min (suc n) 0) (min (suc n) (suc k)) ≡ Less
-counted_less n k = ap (nat_cmp 0) (suc-min-suc n k) ∙ less_number 0 (suc (min n k)) (omega arith)
+counted_less n k = ap₂ nat_cmp (min-zero (suc n)) (suc-min-suc n k) ∙ less_number 0 (suc (min n k)) (omega arith)
 
 counted_more : (n k : ℕ) → nat_cmp (min (suc n) (suc k)) (min (suc n) 0) ≡ Greater
-counted_more n k = ap (λ m. nat_cmp m 0) (suc-min-suc n k) ∙ more_number (suc (min n k)) 0 (omega arith)
+counted_more n k = ap₂ nat_cmp (suc-min-suc n k) (min-zero (suc n)) ∙ more_number (suc (min n k)) 0 (omega arith)
 
 counted_next : (n k m : ℕ) → nat_cmp (min (suc n) (suc k)) (min (suc n) (suc m)) ≡ nat_cmp (min n k) (min n m)
 counted_next n k m = ap₂ nat_cmp (suc-min-suc n k) (suc-min-suc n m) ∙ next_number (min n k) (min n m)
 
 both_more : (k m : ℕ) → nat_cmp (min 1 (suc k)) (min 1 (suc m)) ≡ Equal
-both_more k m = counted_next 0 k m ∙ same_number 0
+both_more k m = counted_next 0 k m ∙ ap₂ nat_cmp (zero-min k) (zero-min m) ∙ same_number 0
 
 -- padded bytes and then the count
 pub fronts : (n : ℕ) (a b : List ℕ) → ordering_then (by_bytes (padded n a) (padded n b)) (nat_cmp (min (suc n) (length a)) (min (suc n) (length b))) ≡ head_cmp n a b
@@ -170,14 +170,14 @@ decides n [] [] o is apart = absurd (apart (sym is))
 decides n [] (y ∷ b) o is apart = is
 decides n (x ∷ a) [] o is apart = is
 decides zero (x ∷ a) (y ∷ b) o is apart = absurd (apart (sym is))
-decides (suc n) (x ∷ a) (y ∷ b) o is apart = by (nat_cmp x y) refl
+decides (suc n) (x ∷ a) (y ∷ b) o is apart = by (λ e. decides n a b o e apart) (nat_cmp x y) refl
   where
-    by : (p : Ordering) → nat_cmp x y ≡ p → by_bytes (x ∷ a) (y ∷ b) ≡ o
-    by Less p = ap (λ r. ordering_then r (by_bytes a b)) p ∙ sym (ap (λ r. ordering_then r (head_cmp n a b)) p) ∙ is
-    by Greater p = ap (λ r. ordering_then r (by_bytes a b)) p ∙ sym (ap (λ r. ordering_then r (head_cmp n a b)) p) ∙ is
-    by Equal p =
+    by : (head_cmp n a b ≡ o → by_bytes a b ≡ o) → (p : Ordering) → nat_cmp x y ≡ p → by_bytes (x ∷ a) (y ∷ b) ≡ o
+    by later Less p = ap (λ r. ordering_then r (by_bytes a b)) p ∙ sym (ap (λ r. ordering_then r (head_cmp n a b)) p) ∙ is
+    by later Greater p = ap (λ r. ordering_then r (by_bytes a b)) p ∙ sym (ap (λ r. ordering_then r (head_cmp n a b)) p) ∙ is
+    by later Equal p =
         ap (λ r. ordering_then r (by_bytes a b)) p
-        ∙ decides n a b o (sym (ap (λ r. ordering_then r (head_cmp n a b)) p) ∙ is) apart
+        ∙ later (sym (ap (λ r. ordering_then r (head_cmp n a b)) p) ∙ is)
 
 -- where nothing does, bytes that all stand there are the same
 level : (n : ℕ) (a b : List ℕ) → head_cmp n a b ≡ Equal → length a ≤ n → by_bytes a b ≡ Equal
@@ -185,14 +185,14 @@ level n [] [] is few = refl
 level n [] (y ∷ b) is few = is
 level n (x ∷ a) [] is few = is
 level zero (x ∷ a) (y ∷ b) is few = absurd (omega (arith, few))
-level (suc n) (x ∷ a) (y ∷ b) is few = by (nat_cmp x y) refl
+level (suc n) (x ∷ a) (y ∷ b) is few = by (λ e. level n a b e (omega (arith, few))) (nat_cmp x y) refl
   where
-    by : (p : Ordering) → nat_cmp x y ≡ p → by_bytes (x ∷ a) (y ∷ b) ≡ Equal
-    by Less p = let never : Less ≡ Equal = sym (ap (λ r. ordering_then r (head_cmp n a b)) p) ∙ is in absurd (cc)
-    by Greater p = let never : Greater ≡ Equal = sym (ap (λ r. ordering_then r (head_cmp n a b)) p) ∙ is in absurd (cc)
-    by Equal p =
+    by : (head_cmp n a b ≡ Equal → by_bytes a b ≡ Equal) → (p : Ordering) → nat_cmp x y ≡ p → by_bytes (x ∷ a) (y ∷ b) ≡ Equal
+    by later Less p = let never : Less ≡ Equal = sym (ap (λ r. ordering_then r (head_cmp n a b)) p) ∙ is in absurd (cc)
+    by later Greater p = let never : Greater ≡ Equal = sym (ap (λ r. ordering_then r (head_cmp n a b)) p) ∙ is in absurd (cc)
+    by later Equal p =
         ap (λ r. ordering_then r (by_bytes a b)) p
-        ∙ level n a b (sym (ap (λ r. ordering_then r (head_cmp n a b)) p) ∙ is) (omega (arith, few))
+        ∙ later (sym (ap (λ r. ordering_then r (head_cmp n a b)) p) ∙ is)
 
 pub padded_length : (n : ℕ) (bytes : List ℕ) → length (padded n bytes) ≡ n
 padded_length zero bytes = refl
