@@ -87,3 +87,15 @@ few_by_front bytes few = by (length bytes) (subst (λ n. n ≤ short) (count_is 
       | inl below ↦ omega (arith, below)
       | inr above ↦ let whole : min (suc short) n ≡ suc short = min-eq_left above in absurd (omega (arith, least, whole))
     ]
+
+more_test : (n : ℕ) → short < n → nat_le n short ≡ false
+more_test n many = by (nat_le n short) refl
+  where
+    by : (t : Bool) → nat_le n short ≡ t → nat_le n short ≡ false
+    by true is = let below : n ≤ short = leb-true n short is in absurd (omega (arith, below, many))
+    by false is = is
+
+-- a front that counts more shows the bytes behind the pointer
+pub shown_more : (front bytes : List ℕ) → short < count_of front → shown front bytes ≡ bytes
+shown_more front bytes many =
+    other (nat_le (count_of front) short) (take (count_of front) front) bytes (more_test (count_of front) many)

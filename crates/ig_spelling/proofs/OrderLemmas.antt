@@ -1,5 +1,5 @@
 -- The order of fronts, as that of the bytes.
-use Rattle.std.proofs.Common.{◌≡◌, ◌≢◌, ◌<◌, ◌≤◌, ◌+◌, ◌*◌, ℕ, zero, suc, min, List, [], ◌∷◌, ◌++◌, length, take, drop, Ordering, Less, Equal, Greater, nat_cmp, refl, sym, ap, ap₂, ◌∙◌, subst, arith, append_assoc, take-append-drop}
+use Rattle.std.proofs.Common.{◌≡◌, ◌≢◌, ◌<◌, ◌≤◌, ◌+◌, ◌*◌, ℕ, zero, suc, min, List, [], ◌∷◌, ◌++◌, length, take, drop, true, false, Ordering, Less, Equal, Greater, nat_cmp, refl, sym, ap, ap₂, ◌∙◌, subst, arith, append_assoc, take-append-drop}
 use Rattle.std.proofs.Math.Nat.{suc-min-suc, zero-min, min-zero}
 use Rattle.std.specs.Ordering.{ordering_then, MatchOrdering, is_ne}
 use Rattle.std.specs.Cmp.{nat_cmp_is, ranked}
@@ -212,3 +212,12 @@ by_front a b o is apart = sym (decides short a b o (sym (is ∙ front_cmp a b)) 
 -- the same fronts of short bytes are those of the same bytes
 pub by_short : (a b : List ℕ) → by_bytes (front_of a) (front_of b) ≡ Equal → length a ≤ short → by_bytes a b ≡ Equal
 by_short a b is few = level short a b (sym (front_cmp a b) ∙ is) few
+
+-- ---- tests
+pub equal_from : (o : Ordering) → false ≡ is_ne o → o ≡ Equal
+equal_from Less is = cc
+equal_from Equal is = refl
+equal_from Greater is = cc
+
+pub apart_from : (o : Ordering) → true ≡ is_ne o → o ≢ Equal
+apart_from o is same = let never : true ≡ false = is ∙ ap is_ne same in cc

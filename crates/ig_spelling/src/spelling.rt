@@ -144,7 +144,10 @@ impl Ord for Spelling {
     #[inline]
     fn cmp(&self, other: &Spelling) -> Ordering {
         let fronts = front::order(&self.front, &other.front);
-        if fronts.is_ne() || self.front[PLACES] as usize <= PLACES {
+        if fronts.is_ne() {
+            return fronts;
+        }
+        if self.front[PLACES] as usize <= PLACES {
             return fronts;
         }
         self.bytes.as_slice().cmp(&other.bytes.as_slice())
