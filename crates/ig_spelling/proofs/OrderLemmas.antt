@@ -221,3 +221,41 @@ equal_from Greater is = cc
 
 pub apart_from : (o : Ordering) → true ≡ is_ne o → o ≢ Equal
 apart_from o is same = let never : true ≡ false = is ∙ ap is_ne same in cc
+
+pub then_first : (o p : Ordering) → true ≡ is_ne o → ordering_then o p ≡ o
+then_first Less p is = refl
+then_first Equal p is = cc
+then_first Greater p is = refl
+
+pub then_second : (o p : Ordering) → false ≡ is_ne o → ordering_then o p ≡ p
+then_second Less p is = cc
+then_second Equal p is = refl
+then_second Greater p is = cc
+
+-- ---- three words
+bytes_take : (n : ℕ) (bytes : List ℕ) → AreBytes bytes → AreBytes (take n bytes)
+bytes_take zero [] are = tt
+bytes_take zero (b ∷ bytes) are = tt
+bytes_take (suc n) [] are = tt
+bytes_take (suc n) (b ∷ bytes) are = (are.0, bytes_take n bytes are.1)
+
+bytes_drop : (n : ℕ) (bytes : List ℕ) → AreBytes bytes → AreBytes (drop n bytes)
+bytes_drop zero [] are = tt
+bytes_drop zero (b ∷ bytes) are = are
+bytes_drop (suc n) [] are = tt
+bytes_drop (suc n) (b ∷ bytes) are = bytes_drop n bytes are.1
+
+-- the number that eight bytes from an index on spell
+abbrev pub word_at : ℕ → List ℕ → ℕ
+word_at i bytes = big_endian 0 (take 8 (drop i bytes))
+
+-- the order of lists of one length, by eight bytes and then the rest
+pub by_word : (a b : List ℕ) (i : ℕ) → length (take 8 (drop i a)) ≡ length (take 8 (drop i b)) → AreBytes a → AreBytes b
+    → by_bytes (drop i a) (drop i b) ≡ ordering_then (nat_cmp (word_at i a) (word_at i b)) (by_bytes (drop 8 (drop i a)) (drop 8 (drop i b)))
+by_word a b i long in_a in_b =
+    let heads : nat_cmp (word_at i a) (word_at i b) ≡ by_bytes (take 8 (drop i a)) (take 8 (drop i b)) =
+    spelt 0 0 (take 8 (drop i a)) (take 8 (drop i b)) long (bytes_take 8 (drop i a) (bytes_drop i a in_a)) (bytes_take 8 (drop i b) (bytes_drop i b in_b))
+    ∙ ap (λ o. ordering_then o (by_bytes (take 8 (drop i a)) (take 8 (drop i b)))) (same_number 0) in
+    sym (ap₂ by_bytes (take-append-drop 8 (drop i a)) (take-append-drop 8 (drop i b)))
+    ∙ cmp_after (take 8 (drop i a)) (take 8 (drop i b)) (drop 8 (drop i a)) (drop 8 (drop i b)) long
+    ∙ ap (λ o. ordering_then o (by_bytes (drop 8 (drop i a)) (drop 8 (drop i b)))) (sym heads)
