@@ -1,0 +1,12 @@
+pub mod SpreadLemmas
+pub mod BesideLemmas
+pub mod PartLemmas
+pub mod TogetherLemmas
+pub mod CreationLemmas
+pub mod RunLemmas
+pub mod FreshLemmas
+pub mod WholeLemmas
+pub mod MarkLemmas
+pub mod MergeLemmas
+pub mod CutLemmas
+pub mod LegalLemmas

@@ -1,0 +1,8 @@
+use Rattle.std.proofs.Common.{◌≡◌}
+use Rattle.ig_shards.specs.PartView.{parts_of}
+use Rattle.ig_shards.proofs.FreshLemmas.{fresh_parts}
+use Rattle.ig_shards.proofs.shards.Shards.start.Given as goal
+
+-- the shards so far have the names
+abbrev pub invariant-loop-number : goal.invariant-loop-number
+invariant-loop-number l = parts_of l.parts.items ≡ fresh_parts l.names l.shards 0 l.number
