@@ -158,7 +158,7 @@ unchanged_in_all call first all outcome on_first on_all minor (Ok answer) new ra
     )
 unchanged_in_all call first all outcome on_first on_all minor (Err e) new ran_first = ((ran_first.0, refl), ran_first.1)
 
-abbrev RunsAsFirst : Call → Part → List Part → Type 0
+abbrev pub RunsAsFirst : Call → Part → List Part → Type 0
 RunsAsFirst call first parts = (result : Result Answer (NoRoom Call)) (new : PlainCaches) → RunsOn call first.caches result new
     → RunsOn call (together (first ∷ parts)) result (together (first ∷ parts)) × (new ≡ first.caches)
 
@@ -255,3 +255,8 @@ destroy_in_all c first parts id all (Ok answer) new sure ran_first =
       ap (λ (d : PlainCaches). together (record first { caches = d } ∷ destroyed_in_parts parts id)) ran_first.1 ∙ sym (ap (λ (r : Outcome × PlainCaches). r.1) whole),
     )
 destroy_in_all c first parts id all (Err e) new sure ran_first = absurd sure
+
+-- a destroy takes no memory, so it leaves what plain caches do
+pub destroyed_ran : (id : ℤ) (old new : PlainCaches) (result : Result Answer (NoRoom Call)) → IsOk result → RunsOn (Destroy id) old result new → new ≡ (after_destroy id old).1
+destroyed_ran id old new (Ok answer) sure ran_it = ran_it.1
+destroyed_ran id old new (Err e) sure ran_it = absurd sure

@@ -1,11 +1,13 @@
 pub mod SpreadLemmas
 pub mod BesideLemmas
 pub mod PartLemmas
+pub mod EachLemmas
 pub mod TogetherLemmas
 pub mod CreationLemmas
 pub mod RunLemmas
 pub mod FreshLemmas
 pub mod WholeLemmas
+pub mod FirstLemmas
 pub mod MarkLemmas
 pub mod MergeLemmas
 pub mod CutLemmas

@@ -73,11 +73,10 @@ and_second false b e = absurd (cc)
 pub marked_named : (marks : List Bool) (pairs : List Pair) (q : List ℕ) → is_marked marks pairs q ≡ true → has_key pairs q ≡ true
 marked_named [] pairs q e = absurd (cc)
 marked_named (m ∷ marks) [] q e = absurd (cc)
-marked_named (m ∷ marks) (pair ∷ pairs) q e = by (or_cases (m && ties q (Canon pair.key)) (is_marked marks pairs q) e)
-  where
-    by : ((m && ties q (Canon pair.key)) ≡ true) ⊎ (is_marked marks pairs q ≡ true) → has_key (pair ∷ pairs) q ≡ true
-    by (inl first) = ap (λ (b : Bool). b || has_key pairs q) (and_second m (ties q (Canon pair.key)) first)
-    by (inr later) = ap (λ (b : Bool). ties q (Canon pair.key) || b) (marked_named marks pairs q later) ∙ or_true (ties q (Canon pair.key))
+marked_named (m ∷ marks) (pair ∷ pairs) q e = elim (or_cases (m && ties q (Canon pair.key)) (is_marked marks pairs q) e) [
+  | inl first ↦ ap (λ (b : Bool). b || has_key pairs q) (and_second m (ties q (Canon pair.key)) first)
+  | inr later ↦ ap (λ (b : Bool). ties q (Canon pair.key) || b) (marked_named marks pairs q later) ∙ or_true (ties q (Canon pair.key))
+]
 
 -- ---- putting rows under keys that have none
 pub none_marked : (rows : Rows) (pairs : List Pair) → IsMarked rows rows [] pairs

@@ -51,16 +51,19 @@ below_append x (e ∷ es) others below too =
     let halves : T (is_lt (by_bytes x e.0)) × T (below_all by_bytes x es) = both_true (is_lt (by_bytes x e.0)) (below_all by_bytes x es) below in
     both_hold (is_lt (by_bytes x e.0)) (below_all by_bytes x (es ++ others)) halves.0 (below_append x es others halves.1 too)
 
+below_by : (o : Ordering) (x k : List ℕ) (row : Pair) (e : List ℕ × Pair) (es : Entries) → T (is_lt (by_bytes x k)) → T (below_all by_bytes x (e ∷ es)) → T (below_all by_bytes x (finite.put by_bytes k row es))
+    → T (below_all by_bytes x (by_order o ((k, row) ∷ e ∷ es) ((e.0, row) ∷ es) (e ∷ finite.put by_bytes k row es)))
+below_by Less x k row e es less below rest = both_hold (is_lt (by_bytes x k)) (below_all by_bytes x (e ∷ es)) less below
+below_by Equal x k row e es less below rest = below
+below_by Greater x k row e es less below rest =
+    let halves : T (is_lt (by_bytes x e.0)) × T (below_all by_bytes x es) = both_true (is_lt (by_bytes x e.0)) (below_all by_bytes x es) below in
+    both_hold (is_lt (by_bytes x e.0)) (below_all by_bytes x (finite.put by_bytes k row es)) halves.0 rest
+
 below_put : (x k : List ℕ) (row : Pair) (es : Entries) → T (is_lt (by_bytes x k)) → T (below_all by_bytes x es) → T (below_all by_bytes x (finite.put by_bytes k row es))
 below_put x k row [] less below = both_hold (is_lt (by_bytes x k)) true less tt
-below_put x k row (e ∷ es) less below = by (by_bytes k e.0)
-  where
-    by : (o : Ordering) → T (below_all by_bytes x (by_order o ((k, row) ∷ e ∷ es) ((e.0, row) ∷ es) (e ∷ finite.put by_bytes k row es)))
-    by Less = both_hold (is_lt (by_bytes x k)) (below_all by_bytes x (e ∷ es)) less below
-    by Equal = below
-    by Greater =
-        let halves : T (is_lt (by_bytes x e.0)) × T (below_all by_bytes x es) = both_true (is_lt (by_bytes x e.0)) (below_all by_bytes x es) below in
-        both_hold (is_lt (by_bytes x e.0)) (below_all by_bytes x (finite.put by_bytes k row es)) halves.0 (below_put x k row es less halves.1)
+below_put x k row (e ∷ es) less below =
+    let halves : T (is_lt (by_bytes x e.0)) × T (below_all by_bytes x es) = both_true (is_lt (by_bytes x e.0)) (below_all by_bytes x es) below in
+    below_by (by_bytes k e.0) x k row e es less below (below_put x k row es less halves.1)
 
 pub no_entries : finite.entries (finite.empty {X = Pair} {R = by_bytes}) ≡ []
 no_entries = nil_from_length _ (sym (finite.len-entries (finite.empty {X = Pair} {R = by_bytes})) ∙ finite.len-empty by_bytes Pair)

@@ -1,6 +1,7 @@
 -- What a call on its shard alone is of all shards.
 use Rattle.std.proofs.Common.{◌≡◌, ◌<◌, ◌+◌, ◌++◌, ℕ, zero, suc, List, [], ◌∷◌, length, take, drop, get_or, set, Result, Ok, Err, IfOk, OnOk, IfErr, OnErr, refl, sym, ap, ◌∙◌, subst, arith}
-use Rattle.std.proofs.lemmas.List.{set-get_or, length-take}
+use Rattle.std.proofs.Math.ListN.{get_or-map}
+use Rattle.std.proofs.lemmas.List.{set-get_or, length-take, length-map, map-set}
 use Rattle.std.proofs.lemmas.List.Elements.{All-cons, All-head, All-tail}
 use Rattle.ig_base.specs.declared.memory.NoRoom.{NoRoom}
 use Rattle.ig_caches.specs.declared.call.Call.{Call}
@@ -161,30 +162,16 @@ run_keeps call old new (Err e) runs = runs.1
 module _ (shards i : ℕ) (all : List ShardRows) (here new : ShardRows) (call : Call) (result : Result Answer (NoRoom Call)) (are_all : AreAll shards (parts_of all)) (within : i < length all)
     (at : here ≡ get_or all i here) (touches_it : touches call shards ≡ touched.One i) (number : new.number ≡ here.number) (count : new.shards ≡ here.shards)
     (runs : RunsOn call (part_of here).caches result (part_of new).caches) where
-  got : (parts : List ShardRows) (j : ℕ) → get_or (parts_of parts) j (part_of here) ≡ part_of (get_or parts j here)
-  got [] j = refl
-  got (part ∷ parts) zero = refl
-  got (part ∷ parts) (suc j) = got parts j
-
-  put : (parts : List ShardRows) (j : ℕ) → parts_of (set parts j new) ≡ set (parts_of parts) j (part_of new)
-  put [] j = refl
-  put (part ∷ parts) zero = refl
-  put (part ∷ parts) (suc j) = ap (λ (ps : List Part). part_of part ∷ ps) (put parts j)
-
-  as_many : (parts : List ShardRows) → length (parts_of parts) ≡ length parts
-  as_many [] = refl
-  as_many (part ∷ parts) = ap suc (as_many parts)
-
   this_is : get_or (parts_of all) i (part_of here) ≡ part_of here
-  this_is = got all i ∙ ap part_of (sym at)
+  this_is = get_or-map part_of all i here ∙ ap part_of (sym at)
 
   -- a call that runs on the one that it touches runs on all
   pub run_here : RunsOn call (together (parts_of all)) result (together (parts_of (set all i new))) × AreAll shards (parts_of (set all i new))
   run_here =
-      let inside : i < length (parts_of all) = omega (arith, within, as_many all) in
+      let inside : i < length (parts_of all) = omega (arith, within, length-map all part_of) in
       let same_number : new.number ≡ (get_or (parts_of all) i (part_of here)).number = number ∙ sym (ap (λ (p : Part). p.number) this_is) in
       let same_count : new.shards ≡ (get_or (parts_of all) i (part_of here)).shards = count ∙ sym (ap (λ (p : Part). p.shards) this_is) in
       let runs_there : RunsOn call (get_or (parts_of all) i (part_of here)).caches result (part_of new).caches =
       subst (λ (p : Part). RunsOn call p.caches result (part_of new).caches) (sym this_is) runs in
-      subst (λ (ps : List Part). RunsOn call (together (parts_of all)) result (together ps) × AreAll shards ps) (sym (put all i))
+      subst (λ (ps : List Part). RunsOn call (together (parts_of all)) result (together ps) × AreAll shards ps) (sym (map-set part_of all i new))
       (runs_alone shards i (parts_of all) (part_of here) (part_of new) call are_all inside touches_it same_number same_count result runs_there)

@@ -27,7 +27,7 @@ fn no_rows(alloc: Global, count: usize) -> Result<Vec<RowMap>, NoMemory>
     ensures empty { IfOk result (λ rows. All (λ r. r ≡ finite.empty) rows.items) }
 {
     let mut rows = Vec::with_capacity(alloc, count)?;
-    for _ in 0..count {
+    while rows.len() < count {
         rows.push(RowMap::new(alloc))?;
     }
     Ok(rows)
@@ -90,12 +90,12 @@ fn make_room(parts: &mut [ShardRows]) -> Result<(), NoMemory>
 }
 
 /// Copies of the name, as many.
-fn copies(alloc: Global, name: &Text, count: usize) -> Result<Vec<Text>, NoMemory>
+fn name_copies(alloc: Global, name: &Text, count: usize) -> Result<Vec<Text>, NoMemory>
     ensures count { IfOk result (λ names. length names.items ≡ count) }
     ensures same { IfOk result (λ names. All (λ n. n ≡ name.now) names.items) }
 {
     let mut names = Vec::with_capacity(alloc, count)?;
-    for _ in 0..count {
+    while names.len() < count {
         names.push(copy_text(alloc, name)?)?;
     }
     Ok(names)
@@ -133,7 +133,7 @@ fn create_in_all(
     ensures answer { IfOk result (λ answer. (answer.outcome ≡ outcome.Done)
         × (answer.minor ≡ (together (parts_of parts.new)).minor)) }
 {
-    let Ok(names) = copies(alloc, &name, parts.len()) else {
+    let Ok(names) = name_copies(alloc, &name, parts.len()) else {
         return Err(NoRoom { back: name });
     };
     if make_room(parts).is_err() {
