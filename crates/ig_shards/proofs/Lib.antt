@@ -8,6 +8,8 @@ pub mod RunLemmas
 pub mod FreshLemmas
 pub mod WholeLemmas
 pub mod FirstLemmas
+pub mod AddLemmas
+pub mod OneShardLemmas
 pub mod MarkLemmas
 pub mod MergeLemmas
 pub mod CutLemmas

@@ -170,7 +170,7 @@ removed_from_both id (a ∷ caches) (b ∷ others) same = elim (cases_Bool (has_
 ]
 
 -- ---- the rows of a cache are taken out of each shard in turn, and put back
-rows_none : (parts : List Part) (id : ℤ) → with_rows_in_parts parts id [] ≡ parts
+pub rows_none : (parts : List Part) (id : ℤ) → with_rows_in_parts parts id [] ≡ parts
 rows_none [] id = refl
 rows_none (part ∷ parts) id = refl
 

@@ -1,5 +1,5 @@
 -- Calls on all shards.
-use Rattle.std.proofs.Common.{◌≡◌, ◌<◌, ◌≤◌, ◌+◌, ◌||◌, ℕ, suc, ℤ, Bool, true, false, List, [], ◌∷◌, length, take, get_or, set, map, All, Option, None, Some, Result, Ok, Err, refl, sym, ap, ap₂, ◌∙◌, subst, inl, inr, arith}
+use Rattle.std.proofs.Common.{◌≡◌, ◌<◌, ◌≤◌, ◌+◌, ◌++◌, ◌||◌, ℕ, suc, ℤ, Bool, true, false, List, [], ◌∷◌, length, take, drop, get_or, set, map, All, Option, None, Some, Result, Ok, Err, refl, sym, ap, ap₂, ◌∙◌, subst, inl, inr, arith}
 use Rattle.std.proofs.lemmas.Bool.{cases_Bool, cond-true, cond-false}
 use Rattle.std.proofs.lemmas.List.Elements.{All-nil, All-cons, All-head, All-tail}
 use Rattle.std.proofs.Math.ListN.{get_or-map}
@@ -27,6 +27,7 @@ use Rattle.ig_shards.specs.Parts.{Part, together, AreAlike, AreNumbered, AllAlik
 use Rattle.ig_shards.specs.declared.shard_rows.ShardRows.{ShardRows}
 use Rattle.ig_shards.specs.PartView.{part_of, parts_of}
 use Rattle.ig_shards.specs.RowsOfParts.{rows_in_parts, rows_or, with_rows_in_parts}
+use Rattle.ig_shards.proofs.EachLemmas.{each_next, each_step}
 use Rattle.ig_shards.proofs.TogetherLemmas.{found_together, missing_together, rows_together, numbered_rows, alike_rows, rows_twice, swapped, next_part, taken_rows, next_rows, all_taken}
 
 -- ---- whether a cache stands
@@ -112,6 +113,19 @@ module _ (shards : ℕ) (first : Part) (parts : List Part) (id : ℤ) (call : Ca
       sym put ∙ ap (with_rows_of whole id) failed.1
           ∙ ap (λ (cs : List Cache). record whole { caches = cs }) (with_own whole.caches id (record cache { rows = taken }) found),
     )
+
+-- ---- the shards are changed in turn
+pub changed_next : (f : Part → Part) (old parts : List ShardRows) (i : ℕ) (part new : ShardRows) → i < length old → part ≡ get_or parts i part
+    → parts_of parts ≡ map f (take i (parts_of old)) ++ drop i (parts_of old) → part_of new ≡ f (part_of part)
+    → parts_of (set parts i new) ≡ map f (take (i + 1) (parts_of old)) ++ drop (i + 1) (parts_of old)
+changed_next f old parts i part new within at_part so_far is =
+    let before : List Part = parts_of old in
+    let midway : List Part = map f (take i before) ++ drop i before in
+    let inside : i < length before = omega (arith, within, length-map old part_of) in
+    let here : part_of part ≡ get_or before i (part_of part) =
+    ap part_of at_part ∙ sym (get_or-map part_of parts i part) ∙ ap (λ (ps : List Part). get_or ps i (part_of part)) so_far ∙ each_next f before i (part_of part) in
+    map-set part_of parts i new ∙ ap (λ (ps : List Part). set ps i (part_of new)) so_far
+    ∙ ap (set midway i) (is ∙ ap f here) ∙ each_step f before i (i + 1) (part_of part) inside (sym (suc-eq-add-one i))
 
 -- ---- the rows of the shards are swapped in turn
 module _ (id : ℤ) (old parts : List ShardRows) (given rows : List Rows) (i : ℕ) (part new : ShardRows) (row left : Rows) (within : i < length old) (long : length given ≡ length old)

@@ -11,7 +11,7 @@ use Rattle.ig_shards.specs.PartView.{parts_of}
 use Rattle.ig_shards.specs.RunsOnParts.{AreThose}
 use Rattle.ig_shards.proofs.SpreadLemmas.{all_written}
 use Rattle.ig_shards.proofs.RunLemmas.{run_here, run_answers, run_leaves, run_hands_back, run_keeps}
-use Rattle.ig_shards.proofs.shards.Shards.run.Goals as goal
+use Rattle.ig_shards.proofs.shards.ShardsExec.run.Goals as goal
 
 pub invariant_of-self : goal.invariant_of-self
 invariant_of-self c =

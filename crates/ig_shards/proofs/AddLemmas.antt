@@ -1,0 +1,76 @@
+-- Adding a cache to each shard in turn.
+use Rattle.std.proofs.Common.{◌≡◌, ◌<◌, ◌≤◌, ◌+◌, ◌++◌, ℕ, zero, suc, List, [], ◌∷◌, length, length-append, take, drop, get_or, set, map, All, Result, Ok, Err, IfOk, IsOk, refl, ap, sym, ◌∙◌, subst, arith}
+use Rattle.std.proofs.Math.ListN.{get_or-map}
+use Rattle.std.proofs.lemmas.List.{drop-set-lt, length-map}
+use Rattle.std.proofs.lemmas.List.Elements.{All-head, All-tail}
+use Rattle.ig_base.specs.declared.memory.NoRoom.{NoRoom}
+use Rattle.ig_caches.specs.declared.answer.Outcome.{Outcome}
+use Rattle.ig_caches.specs.PlainCaches.{PlainCaches}
+use Rattle.ig_caches.specs.Effect.{created}
+use Rattle.ig_shards.specs.declared.shard_rows.ShardRows.{ShardRows}
+use Rattle.ig_shards.specs.Parts.{Part}
+use Rattle.ig_shards.specs.PartView.{part_of, parts_of}
+
+-- what holds of all items holds of the one in the middle
+pub all_middle : {X : Type 0} (P : X → Type 0) (before later : List X) (x : X) → All P (before ++ x ∷ later) → P x
+all_middle P [] later x all = All-head P x later all
+all_middle P (first ∷ before) later x all = all_middle P before later x (All-tail P first (before ++ x ∷ later) all)
+
+-- lists that are the same from an index on have the same item there
+pub later_same : {X : Type 0} (xs ys : List X) (i : ℕ) (d : X) → drop i xs ≡ drop i ys → get_or xs i d ≡ get_or ys i d
+later_same xs ys i d same = sym (first_of_drop xs i d) ∙ ap (λ l. get_or l 0 d) same ∙ first_of_drop ys i d
+  where
+    first_of_drop : (l : List X) (j : ℕ) (e : X) → get_or (drop j l) 0 e ≡ get_or l j e
+    first_of_drop [] zero e = refl
+    first_of_drop [] (suc j) e = refl
+    first_of_drop (x ∷ l) zero e = refl
+    first_of_drop (x ∷ l) (suc j) e = first_of_drop l j e
+
+-- what holds of all items holds of the one at an index
+pub holds_at : {X : Type 0} (P : X → Type 0) (xs : List X) (i : ℕ) (d : X) → i < length xs → All P xs → P (get_or xs i d)
+holds_at P [] i d within all = absurd (omega (arith, within))
+holds_at P (x ∷ xs) zero d within all = All-head P x xs all
+holds_at P (x ∷ xs) (suc i) d within all = holds_at P xs i d (omega (arith, within)) (All-tail P x xs all)
+
+-- one item is written, and those after it stay
+pub later_stay : {X : Type 0} (xs ys : List X) (i next : ℕ) (x : X) → next ≡ suc i → drop i xs ≡ drop i ys → drop next (set xs i x) ≡ drop next ys
+later_stay xs ys i next x is same =
+    drop-set-lt next xs i x (omega (arith, is)) ∙ ap (λ n. drop n xs) is ∙ tail_same xs ys i same ∙ ap (λ n. drop n ys) (sym is)
+  where
+    tail : List X → List X
+    tail [] = []
+    tail (y ∷ l) = l
+
+    tail_is : (l : List X) (j : ℕ) → tail (drop j l) ≡ drop (suc j) l
+    tail_is [] zero = refl
+    tail_is [] (suc j) = refl
+    tail_is (y ∷ l) zero = refl
+    tail_is (y ∷ l) (suc j) = tail_is l j
+
+    tail_same : (l m : List X) (j : ℕ) → drop j l ≡ drop j m → drop (suc j) l ≡ drop (suc j) m
+    tail_same l m j e = sym (tail_is l j) ∙ ap tail e ∙ tail_is m j
+
+-- where there was room the cache is added
+pub added : (old new : PlainCaches) (name : List ℕ) (result : Result Outcome (NoRoom (List ℕ))) → IsOk result → IfOk result (λ outcome. (outcome, new) ≡ created old name) → new ≡ (created old name).1
+added old new name (Ok outcome) sure is = ap (λ (r : Outcome × PlainCaches). r.1) is
+added old new name (Err e) sure is = absurd sure
+
+-- the name that is next, and the shard that it is for
+module _ (old parts : List ShardRows) (names before later : List (List ℕ)) (name : List ℕ) (i : ℕ) (items : before ++ name ∷ later ≡ names) (count : length names ≡ length old) (at : i ≡ length before) where
+  pub add_within : i < length old
+  add_within = omega (arith, count, at, ap length items, length-append before (name ∷ later))
+
+  pub its_name : (P : List ℕ → Type 0) → All P names → P name
+  its_name P all = all_middle P before later name (subst (All P) (sym items) all)
+
+  module _ (part : ShardRows) (same : drop i parts ≡ drop i old) (at_part : part ≡ get_or parts i part) where
+    part_was : part ≡ get_or old i part
+    part_was = at_part ∙ later_same parts old i part same
+
+    pub its_shard : (P : ShardRows → Type 0) → All P old → P part
+    its_shard P all = subst P (sym part_was) (holds_at P old i part add_within all)
+
+    pub its_part : (P : Part → Type 0) → All P (parts_of old) → P (part_of part)
+    its_part P all =
+        subst P (get_or-map part_of old i part ∙ sym (ap part_of part_was))
+        (holds_at P (parts_of old) i (part_of part) (omega (arith, add_within, length-map old part_of)) all)

@@ -1,0 +1,28 @@
+use Rattle.std.proofs.Common.{◌≡◌, ◌<◌, ◌≤◌, ◌+◌, ◌++◌, ℕ, ℤ, List, length, take, drop, get_or, set, map, refl, ap, ap₂, sym, ◌∙◌, arith}
+use Rattle.std.proofs.Math.ListN.{get_or-map}
+use Rattle.std.proofs.Math.Numerals.{suc-eq-add-one}
+use Rattle.std.proofs.lemmas.List.{length-map, map-set}
+use Rattle.ig_caches.specs.CachesView.{plain_caches}
+use Rattle.ig_shards.specs.declared.shard_rows.ShardRows.{ShardRows}
+use Rattle.ig_shards.specs.Parts.{Part}
+use Rattle.ig_shards.specs.PartView.{part_of, parts_of}
+use Rattle.ig_shards.specs.RowsOfParts.{destroyed_in}
+use Rattle.ig_shards.proofs.EachLemmas.{each_done}
+use Rattle.ig_shards.proofs.CreationLemmas.{destroyed_ran}
+use Rattle.ig_shards.proofs.WholeLemmas.{changed_next}
+use Rattle.ig_shards.proofs.whole.destroy_in_each.Goals as goal
+
+pub loop-part-preserved : goal.loop-part-preserved
+loop-part-preserved c =
+    let part : ShardRows = c.part-item.result in
+    let new : ShardRows = record part { caches = c.destroy.new.self } in
+    let ran : plain_caches c.destroy.new.self ≡ (destroyed_in c.args.cache (part_of part)).caches =
+    destroyed_ran c.args.cache (plain_caches part.caches) (plain_caches c.destroy.new.self) c.destroy.result c.destroy.ensures.sure c.destroy.ensures.runs in
+    changed_next (destroyed_in c.args.cache) c.args.parts.now c.loop-part.parts c.loop-part.part-index part new c.loop-part-test.true c.part-item.is c.loop-part.invariant
+    (λ k. record { number = part.number; shards = part.shards; caches = ran k })
+
+pub returns : goal.returns
+returns c =
+    let old : List Part = parts_of c.args.parts.now in
+    let done : length old ≤ c.loop-part.part-index = omega (arith, c.loop-part-test.false, length-map c.args.parts.now part_of) in
+    c.loop-part.invariant ∙ each_done (destroyed_in c.args.cache) old c.loop-part.part-index done
