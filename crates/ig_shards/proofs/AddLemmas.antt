@@ -1,11 +1,11 @@
 -- Adding a cache to each shard in turn.
-use Rattle.std.proofs.Common.{◌≡◌, ◌<◌, ◌≤◌, ◌+◌, ◌++◌, ℕ, zero, suc, List, [], ◌∷◌, length, length-append, take, drop, get_or, set, map, All, Result, Ok, Err, IfOk, IsOk, refl, ap, sym, ◌∙◌, subst, arith}
+use Rattle.std.proofs.Common.{◌≡◌, ◌<◌, ◌≤◌, ◌+◌, ◌++◌, ℕ, zero, suc, ℤ, true, false, List, [], ◌∷◌, length, length-append, take, drop, get_or, set, map, All, Result, Ok, Err, IfOk, IsOk, refl, ap, sym, ◌∙◌, subst, arith}
 use Rattle.std.proofs.Math.ListN.{get_or-map}
 use Rattle.std.proofs.lemmas.List.{drop-set-lt, length-map}
-use Rattle.std.proofs.lemmas.List.Elements.{All-head, All-tail}
+use Rattle.std.proofs.lemmas.List.Elements.{All-nil, All-cons, All-head, All-tail}
 use Rattle.ig_base.specs.declared.memory.NoRoom.{NoRoom}
 use Rattle.ig_caches.specs.declared.answer.Outcome.{Outcome}
-use Rattle.ig_caches.specs.PlainCaches.{PlainCaches}
+use Rattle.ig_caches.specs.PlainCaches.{PlainCaches, id_of}
 use Rattle.ig_caches.specs.Effect.{created}
 use Rattle.ig_shards.specs.declared.shard_rows.ShardRows.{ShardRows}
 use Rattle.ig_shards.specs.Parts.{Part}
@@ -18,7 +18,7 @@ all_middle P (first ∷ before) later x all = all_middle P before later x (All-t
 
 -- lists that are the same from an index on have the same item there
 pub later_same : {X : Type 0} (xs ys : List X) (i : ℕ) (d : X) → drop i xs ≡ drop i ys → get_or xs i d ≡ get_or ys i d
-later_same xs ys i d same = sym (first_of_drop xs i d) ∙ ap (λ l. get_or l 0 d) same ∙ first_of_drop ys i d
+later_same {X} xs ys i d same = sym (first_of_drop xs i d) ∙ ap (λ l. get_or l 0 d) same ∙ first_of_drop ys i d
   where
     first_of_drop : (l : List X) (j : ℕ) (e : X) → get_or (drop j l) 0 e ≡ get_or l j e
     first_of_drop [] zero e = refl
@@ -34,7 +34,7 @@ holds_at P (x ∷ xs) (suc i) d within all = holds_at P xs i d (omega (arith, wi
 
 -- one item is written, and those after it stay
 pub later_stay : {X : Type 0} (xs ys : List X) (i next : ℕ) (x : X) → next ≡ suc i → drop i xs ≡ drop i ys → drop next (set xs i x) ≡ drop next ys
-later_stay xs ys i next x is same =
+later_stay {X} xs ys i next x is same =
     drop-set-lt next xs i x (omega (arith, is)) ∙ ap (λ n. drop n xs) is ∙ tail_same xs ys i same ∙ ap (λ n. drop n ys) (sym is)
   where
     tail : List X → List X
@@ -50,10 +50,17 @@ later_stay xs ys i next x is same =
     tail_same : (l m : List X) (j : ℕ) → drop j l ≡ drop j m → drop (suc j) l ≡ drop (suc j) m
     tail_same l m j e = sym (tail_is l j) ∙ ap tail e ∙ tail_is m j
 
+-- copies of a name have its identifier
+pub copies_id : (id : ℤ) (name : List ℕ) (names : List (List ℕ)) → id ≡ id_of name → All (λ n. n ≡ name) names → All (λ n. id ≡ id_of n) names
+copies_id id name [] is all = All-nil (λ n. id ≡ id_of n)
+copies_id id name (first ∷ names) is all =
+    let P : List ℕ → Type 0 = λ n. n ≡ name in
+    All-cons (λ n. id ≡ id_of n) first names (is ∙ ap id_of (sym (All-head P first names all))) (copies_id id name names is (All-tail P first names all))
+
 -- where there was room the cache is added
 pub added : (old new : PlainCaches) (name : List ℕ) (result : Result Outcome (NoRoom (List ℕ))) → IsOk result → IfOk result (λ outcome. (outcome, new) ≡ created old name) → new ≡ (created old name).1
 added old new name (Ok outcome) sure is = ap (λ (r : Outcome × PlainCaches). r.1) is
-added old new name (Err e) sure is = absurd sure
+added old new name (Err e) sure is = let never : false ≡ true = sure in absurd (cc)
 
 -- the name that is next, and the shard that it is for
 module _ (old parts : List ShardRows) (names before later : List (List ℕ)) (name : List ℕ) (i : ℕ) (items : before ++ name ∷ later ≡ names) (count : length names ≡ length old) (at : i ≡ length before) where

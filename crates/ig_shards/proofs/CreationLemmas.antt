@@ -254,9 +254,9 @@ destroy_in_all c first parts id all (Ok answer) new sure ran_first =
       ran_first.0 ∙ sym (ap (λ (r : Outcome × PlainCaches). record { minor = r.1.minor; outcome = r.0 }) whole),
       ap (λ (d : PlainCaches). together (record first { caches = d } ∷ destroyed_in_parts parts id)) ran_first.1 ∙ sym (ap (λ (r : Outcome × PlainCaches). r.1) whole),
     )
-destroy_in_all c first parts id all (Err e) new sure ran_first = absurd sure
+destroy_in_all c first parts id all (Err e) new sure ran_first = let never : false ≡ true = sure in absurd (cc)
 
 -- a destroy takes no memory, so it leaves what plain caches do
 pub destroyed_ran : (id : ℤ) (old new : PlainCaches) (result : Result Answer (NoRoom Call)) → IsOk result → RunsOn (Destroy id) old result new → new ≡ (after_destroy id old).1
 destroyed_ran id old new (Ok answer) sure ran_it = ran_it.1
-destroyed_ran id old new (Err e) sure ran_it = absurd sure
+destroyed_ran id old new (Err e) sure ran_it = let never : false ≡ true = sure in absurd (cc)

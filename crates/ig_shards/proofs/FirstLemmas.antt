@@ -24,6 +24,14 @@ pub split_first : (first : Part) (parts : List Part) → 0 < length parts → fi
 split_first first [] some is = absurd (omega (arith, some))
 split_first first (part ∷ parts) some is = (parts, ap (λ (p : Part). p ∷ parts) (sym is))
 
+pub first_part : (parts : List ShardRows) (first : ShardRows) → first ≡ get_or parts 0 first → part_of first ≡ get_or (parts_of parts) 0 (part_of first)
+first_part parts first at = ap part_of at ∙ sym (get_or-map part_of parts 0 first)
+
+-- the count of the first shard is that of all
+pub first_minor : (parts : List ShardRows) (first : ShardRows) → 0 < length parts → first ≡ get_or parts 0 first → first.caches.minor ≡ (together (parts_of parts)).minor
+first_minor [] first some is = absurd (omega (arith, some))
+first_minor (part ∷ parts) first some is = ap (λ (p : ShardRows). p.caches.minor) is
+
 -- without the cache in one of shards that are alike there is none in any
 absent_each : (c : PlainCaches) (id : ℤ) (parts : List Part) → cache_of c.caches id ≡ None → AllAlike c parts → All (λ (part : Part). cache_of part.caches.caches id ≡ None) parts
 absent_each c id [] none all = All-nil (λ (part : Part). cache_of part.caches.caches id ≡ None)
@@ -33,13 +41,10 @@ absent_each c id (part ∷ parts) none all =
     (absent_each c id parts none (All-tail P part parts all))
 
 module _ (shards : ℕ) (old : List ShardRows) (first : ShardRows) (all : AreAll shards (parts_of old)) (at : first ≡ get_or old 0 first) where
-  first_is : part_of first ≡ get_or (parts_of old) 0 (part_of first)
-  first_is = ap part_of at ∙ sym (get_or-map part_of old 0 first)
-
   others_of : (others : List Part) × (parts_of old ≡ part_of first ∷ others)
-  others_of = split_first (part_of first) (parts_of old) (not_none shards (parts_of old) all) first_is
+  others_of = split_first (part_of first) (parts_of old) (not_none shards (parts_of old) all) (first_part old first at)
 
-  others : List Part
+  pub others : List Part
   others = others_of.0
 
   pub first_and_others : parts_of old ≡ part_of first ∷ others
@@ -64,7 +69,7 @@ module _ (shards : ℕ) (old : List ShardRows) (first : ShardRows) (all : AreAll
       as_first all.like others alike result (part_of new).caches ran in
       let same : part_of new ≡ part_of first = λ k. record { number = number k; shards = count k; caches = it.1 k } in
       let kept : parts_of (set old 0 new) ≡ parts_of old =
-      map-set part_of old 0 new ∙ ap (set (parts_of old) 0) (same ∙ first_is) ∙ set-get_or (parts_of old) 0 (part_of first) in
+      map-set part_of old 0 new ∙ ap (set (parts_of old) 0) (same ∙ first_part old first at) ∙ set-get_or (parts_of old) 0 (part_of first) in
       let whole : RunsOn call (together (parts_of old)) result (together (parts_of old)) =
       subst (λ (ps : List Part). RunsOn call (together ps) result (together ps)) (sym first_and_others) it.0 in
       (subst (λ (ps : List Part). RunsOn call (together (parts_of old)) result (together ps)) (sym kept) whole, kept)
