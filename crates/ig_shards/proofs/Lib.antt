@@ -9,6 +9,7 @@ pub mod FreshLemmas
 pub mod WholeLemmas
 pub mod FirstLemmas
 pub mod AddLemmas
+pub mod SeveralLemmas
 pub mod OneShardLemmas
 pub mod MarkLemmas
 pub mod MergeLemmas

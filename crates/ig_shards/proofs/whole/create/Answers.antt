@@ -1,4 +1,4 @@
-use Rattle.std.proofs.Common.{◌≡◌, true, false, ℕ, ℤ, List, None, Some, w32, to_z, of_z, refl, ap, sym, subst, ◌∙◌, rules}
+use Rattle.std.proofs.Common.{◌≡◌, true, false, ℕ, ℤ, List, get_or, None, Some, w32, to_z, of_z, refl, ap, sym, subst, ◌∙◌, rules}
 use Rattle.std.specs.Int.{cast_signed}
 use Rattle.std.specs.List.{list_any}
 use Rattle.ig_base.specs.Hashes.{Java, units}
@@ -18,7 +18,8 @@ use Rattle.ig_shards.proofs.whole.create.Goals as goal
 pub returns-then-has : goal.returns-then-has
 returns-then-has c =
     let old : List ShardRows = c.args.parts.now in
-    let first : ShardRows = c.index-parts-0.result in
+    let first : ShardRows = get_or old 0 c.index-parts-0.result in
+    let at : first ≡ get_or old 0 first = ap (get_or old 0) c.index-parts-0.is in
     let new : ShardRows = c.run.new.self in
     let all : AreAll c.requires.all.0 (parts_of old) = c.requires.all.1 in
     let same : to_z w32 (of_z w32 c.text_hash-id.result) ≡ c.text_hash-id.result = search rules in
@@ -27,14 +28,15 @@ returns-then-has c =
     sym (c.if-has.ensures ∙ ap (λ (i : ℤ). list_any (has_id i) (plain_caches first.caches).caches) id) in
     let found : (cache : Cache) × (cache_of (plain_caches first.caches).caches (id_of c.args.name) ≡ Some cache) = present_in (plain_caches first.caches).caches (id_of c.args.name) some in
     let ran : RunsOn (Create c.args.name) (together (parts_of old)) c.run.result (together (parts_of c.run.new.parts)) × (parts_of c.run.new.parts ≡ parts_of old) =
-    run_first c.requires.all.0 old first all c.index-parts-0.is (Create c.args.name) new c.run.result c.run.ensures.number c.run.ensures.shards c.run.ensures.runs
+    run_first c.requires.all.0 old first all at (Create c.args.name) new c.run.result c.run.ensures.number c.run.ensures.shards c.run.ensures.runs
     (λ like rest alike. create_stands like (part_of first) rest c.args.name alike found.0 found.1) in
     record { runs = ran.0; all = λ shards are. subst (AreAll shards) (sym ran.1) are }
 
 pub returns-then-not-can_add : goal.returns-then-not-can_add
 returns-then-not-can_add c =
     let old : List ShardRows = c.args.parts.now in
-    let first : ShardRows = c.index-parts-0.result in
+    let first : ShardRows = get_or old 0 c.index-parts-0.result in
+    let at : first ≡ get_or old 0 first = ap (get_or old 0) c.index-parts-0.is in
     let new : ShardRows = c.run.new.self in
     let all : AreAll c.requires.all.0 (parts_of old) = c.requires.all.1 in
     let same : to_z w32 (of_z w32 c.text_hash-id.result) ≡ c.text_hash-id.result = search rules in
@@ -42,7 +44,7 @@ returns-then-not-can_add c =
     let none : cache_of (plain_caches first.caches).caches (id_of c.args.name) ≡ None =
     absent_from (plain_caches first.caches).caches (id_of c.args.name) (sym (c.if-has.ensures ∙ ap (λ (i : ℤ). list_any (has_id i) (plain_caches first.caches).caches) id)) in
     let ran : RunsOn (Create c.args.name) (together (parts_of old)) c.run.result (together (parts_of c.run.new.parts)) × (parts_of c.run.new.parts ≡ parts_of old) =
-    run_first c.requires.all.0 old first all c.index-parts-0.is (Create c.args.name) new c.run.result c.run.ensures.number c.run.ensures.shards c.run.ensures.runs
+    run_first c.requires.all.0 old first all at (Create c.args.name) new c.run.result c.run.ensures.number c.run.ensures.shards c.run.ensures.runs
     (λ like rest alike. create_spent like (part_of first) rest c.args.name alike none (c.if-can_add.ensures.no tt c.args.name)) in
     record { runs = ran.0; all = λ shards are. subst (AreAll shards) (sym ran.1) are }
 
@@ -53,21 +55,24 @@ create_in_all-requires-clause-its_id c =
 
 pub create_in_all-requires-clause-absent : goal.create_in_all-requires-clause-absent
 create_in_all-requires-clause-absent c =
-    let first : ShardRows = c.index-parts-0.result in
+    let old : List ShardRows = c.args.parts.now in
+    let first : ShardRows = get_or old 0 c.index-parts-0.result in
+    let at : first ≡ get_or old 0 first = ap (get_or old 0) c.index-parts-0.is in
     let i : ℤ = to_z w32 (of_z w32 c.text_hash-id.result) in
-    absent_in_all c.requires.all.0 c.args.parts.now first c.requires.all.1 c.index-parts-0.is i (absent_from (plain_caches first.caches).caches i (sym c.if-has.ensures))
+    absent_in_all c.requires.all.0 old first c.requires.all.1 at i (absent_from (plain_caches first.caches).caches i (sym c.if-has.ensures))
 
 pub returns-in-Ok : goal.returns-in-Ok
 returns-in-Ok c =
     let old : List ShardRows = c.args.parts.now in
-    let first : ShardRows = c.index-parts-0.result in
+    let first : ShardRows = get_or old 0 c.index-parts-0.result in
+    let at : first ≡ get_or old 0 first = ap (get_or old 0) c.index-parts-0.is in
     let new : List Part = parts_of c.create_in_all.new.parts in
     let same : to_z w32 (of_z w32 c.text_hash-id.result) ≡ c.text_hash-id.result = search rules in
     let id : to_z w32 (of_z w32 c.text_hash-id.result) ≡ id_of c.args.name = same ∙ c.text_hash-id.ensures ∙ ap (λ t. cast_signed w32 (Java (units t))) c.as_str.ensures in
     let none : cache_of (plain_caches first.caches).caches (id_of c.args.name) ≡ None =
     absent_from (plain_caches first.caches).caches (id_of c.args.name) (sym (c.if-has.ensures ∙ ap (λ (i : ℤ). list_any (has_id i) (plain_caches first.caches).caches) id)) in
     record {
-      runs = created_all c.requires.all.0 old first c.requires.all.1 c.index-parts-0.is c.args.name new c.in-Ok.answer none (c.if-can_add.ensures.yes tt c.args.name) c.in-Ok.ensures.ok c.in-Ok.ensures.answer.0
+      runs = created_all c.requires.all.0 old first c.requires.all.1 at c.args.name new c.in-Ok.answer none (c.if-can_add.ensures.yes tt c.args.name) c.in-Ok.ensures.ok c.in-Ok.ensures.answer.0
           c.in-Ok.ensures.answer.1;
       all = λ shards are. subst (AreAll shards) (sym c.in-Ok.ensures.ok) (all_created shards (parts_of old) c.args.name are);
     }

@@ -1,4 +1,4 @@
-use Rattle.std.proofs.Common.{◌≡◌, ◌+◌, ℕ, List, [], ◌∷◌, take, set, All, ap, sym, subst, ◌∙◌}
+use Rattle.std.proofs.Common.{◌≡◌, ◌<◌, ◌+◌, ℕ, List, [], ◌∷◌, length, take, get_or, set, All, sym, subst, ◌∙◌, arith}
 use Rattle.std.proofs.Math.Seq.{map-set_same}
 use Rattle.std.proofs.lemmas.List.{take_more_set}
 use Rattle.std.proofs.lemmas.List.Elements.{All-push}
@@ -11,19 +11,21 @@ pub loop-part-preserved : goal.loop-part-preserved
 loop-part-preserved c =
     let parts : List ShardRows = c.loop-part.parts in
     let i : ℕ = c.loop-part.part-index in
-    let part : ShardRows = c.part-item.result in
+    let part : ShardRows = get_or parts i c.part-item.result in
     let new : ShardRows = record part { caches = c.make_room.new.self } in
+    let within : i < length parts = omega (arith, c.loop-part-test.true, c.loop-part.auto.parts) in
     let P : ShardRows → Type 0 = λ (p : ShardRows). HasRoom p.caches in
     record {
-      room = subst (All P) (sym (take_more_set parts i new c.loop-part-test.true)) (All-push P (take i parts) new c.loop-part.invariant.room c.in_ok-make_room.ensures.ok);
-      same = map-set_same part_of parts i new part ((λ k. record { number = part.number; shards = part.shards; caches = c.make_room.ensures.same k }) ∙ ap part_of c.part-item.is)
+      room = subst (All P) (sym (take_more_set parts i new within)) (All-push P (take i parts) new c.loop-part.invariant.room c.in_ok-make_room.ensures.ok);
+      same = map-set_same part_of parts i new c.part-item.result (λ k. record { number = part.number; shards = part.shards; caches = c.make_room.ensures.same k })
           ∙ c.loop-part.invariant.same;
     }
 
 pub returns-in_err-make_room-clause-same : goal.returns-in_err-make_room-clause-same
 returns-in_err-make_room-clause-same c =
     let parts : List ShardRows = c.loop-part.parts in
-    let part : ShardRows = c.part-item.result in
+    let i : ℕ = c.loop-part.part-index in
+    let part : ShardRows = get_or parts i c.part-item.result in
     let new : ShardRows = record part { caches = c.make_room.new.self } in
-    map-set_same part_of parts c.loop-part.part-index new part ((λ k. record { number = part.number; shards = part.shards; caches = c.make_room.ensures.same k }) ∙ ap part_of c.part-item.is)
+    map-set_same part_of parts i new c.part-item.result (λ k. record { number = part.number; shards = part.shards; caches = c.make_room.ensures.same k })
     ∙ c.loop-part.invariant.same
