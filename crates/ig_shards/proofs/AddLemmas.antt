@@ -2,7 +2,7 @@
 use Rattle.std.proofs.Common.{◌≡◌, ◌<◌, ◌≤◌, ◌+◌, ◌++◌, ℕ, zero, suc, ℤ, true, false, List, [], ◌∷◌, length, length-append, take, drop, get_or, set, map, All, Result, Ok, Err, IfOk, IsOk, refl, ap, sym, ◌∙◌, subst, arith}
 use Rattle.std.proofs.Math.ListN.{get_or-map}
 use Rattle.std.proofs.lemmas.List.{drop-set-lt, length-map}
-use Rattle.std.proofs.lemmas.List.Elements.{All-nil, All-cons, All-head, All-tail}
+use Rattle.std.proofs.lemmas.List.Elements.{All-nil, All-cons, All-head, All-tail, All-get_or}
 use Rattle.ig_base.specs.declared.memory.NoRoom.{NoRoom}
 use Rattle.ig_caches.specs.declared.answer.Outcome.{Outcome}
 use Rattle.ig_caches.specs.PlainCaches.{PlainCaches, id_of}
@@ -25,12 +25,6 @@ later_same {X} xs ys i d same = sym (first_of_drop xs i d) ∙ ap (λ l. get_or 
     first_of_drop [] (suc j) e = refl
     first_of_drop (x ∷ l) zero e = refl
     first_of_drop (x ∷ l) (suc j) e = first_of_drop l j e
-
--- what holds of all items holds of the one at an index
-pub holds_at : {X : Type 0} (P : X → Type 0) (xs : List X) (i : ℕ) (d : X) → i < length xs → All P xs → P (get_or xs i d)
-holds_at P [] i d within all = absurd (omega (arith, within))
-holds_at P (x ∷ xs) zero d within all = All-head P x xs all
-holds_at P (x ∷ xs) (suc i) d within all = holds_at P xs i d (omega (arith, within)) (All-tail P x xs all)
 
 -- one item is written, and those after it stay
 pub later_stay : {X : Type 0} (xs ys : List X) (i next : ℕ) (x : X) → next ≡ suc i → drop i xs ≡ drop i ys → drop next (set xs i x) ≡ drop next ys
@@ -75,9 +69,9 @@ module _ (old parts : List ShardRows) (names before later : List (List ℕ)) (na
     part_was = at_part ∙ later_same parts old i part same
 
     pub its_shard : (P : ShardRows → Type 0) → All P old → P part
-    its_shard P all = subst P (sym part_was) (holds_at P old i part add_within all)
+    its_shard P all = subst P (sym part_was) (All-get_or P old i part add_within all)
 
     pub its_part : (P : Part → Type 0) → All P (parts_of old) → P (part_of part)
     its_part P all =
         subst P (get_or-map part_of old i part ∙ sym (ap part_of part_was))
-        (holds_at P (parts_of old) i (part_of part) (omega (arith, add_within, length-map old part_of)) all)
+        (All-get_or P (parts_of old) i (part_of part) (omega (arith, add_within, length-map old part_of)) all)

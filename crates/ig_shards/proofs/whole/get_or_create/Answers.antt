@@ -45,7 +45,7 @@ returns-then-not-can_add c =
     absent_from (plain_caches first.caches).caches (id_of c.args.name) (sym (c.if-has.ensures ∙ ap (λ (i : ℤ). list_any (has_id i) (plain_caches first.caches).caches) id)) in
     let ran : RunsOn (GetOrCreate c.args.name) (together (parts_of old)) c.run.result (together (parts_of c.run.new.parts)) × (parts_of c.run.new.parts ≡ parts_of old) =
     run_first c.requires.all.0 old first all at (GetOrCreate c.args.name) new c.run.result c.run.ensures.number c.run.ensures.shards c.run.ensures.runs
-    (λ like rest alike. get_or_create_spent like (part_of first) rest c.args.name alike none (c.if-can_add.ensures.no tt c.args.name)) in
+    (λ like rest alike. get_or_create_spent like (part_of first) rest c.args.name alike none (c.if-not-can_add.ensures.no refl c.args.name)) in
     record { runs = ran.0; all = λ shards are. subst (AreAll shards) (sym ran.1) are }
 
 pub create_in_all-requires-clause-its_id : goal.create_in_all-requires-clause-its_id
@@ -72,7 +72,7 @@ returns-in-Ok c =
     let none : cache_of (plain_caches first.caches).caches (id_of c.args.name) ≡ None =
     absent_from (plain_caches first.caches).caches (id_of c.args.name) (sym (c.if-has.ensures ∙ ap (λ (i : ℤ). list_any (has_id i) (plain_caches first.caches).caches) id)) in
     record {
-      runs = get_or_created_all c.requires.all.0 old first c.requires.all.1 at c.args.name new c.in-Ok.answer none (c.if-can_add.ensures.yes tt c.args.name) c.in-Ok.ensures.ok c.in-Ok.ensures.answer.0
+      runs = get_or_created_all c.requires.all.0 old first c.requires.all.1 at c.args.name new c.in-Ok.answer none (c.if-not-can_add.ensures.yes refl c.args.name) c.in-Ok.ensures.ok c.in-Ok.ensures.answer.0
           c.in-Ok.ensures.answer.1;
       all = λ shards are. subst (AreAll shards) (sym c.in-Ok.ensures.ok) (all_created shards (parts_of old) c.args.name are);
     }
