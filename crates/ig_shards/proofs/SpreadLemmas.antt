@@ -3,7 +3,7 @@ use Rattle.std.proofs.Common.{◌≡◌, ◌<◌, ◌≤◌, ◌⊎◌, ◌+◌,
 use Rattle.std.proofs.lemmas.Bool.{cases_Bool, cond-true, cond-false}
 use Rattle.std.specs.Cmp.Lexicographic.{nat_list_cmp_total}
 use Rattle.std.proofs.Math.ListN.{drop_of_length-le}
-use Rattle.std.proofs.lemmas.List.{take_all}
+use Rattle.std.proofs.lemmas.List.{take_all, get_or_default}
 use Rattle.std.proofs.lemmas.List.Elements.{All-head, All-tail}
 use Rattle.std.proofs.lemmas.List.Sums.{sum_by-cons}
 use Rattle.std.specs.declared.cmp.Ordering.{Ordering}
@@ -341,11 +341,6 @@ spread_none shards next (rows ∷ others) count none =
     (subst (IsPlaced shards next) (sym (All-head P rows others none)) (placed_none shards next), spread_none shards (suc next) others (omega (arith, count)) (All-tail P rows others none))
 
 -- ---- the shard of a key
-any_default : (all : List Rows) (i : ℕ) (d e : Rows) → i < length all → get_or all i d ≡ get_or all i e
-any_default [] i d e within = absurd (not_within i within)
-any_default (rows ∷ all) zero d e within = refl
-any_default (rows ∷ all) (suc i) d e within = any_default all i d e (within_rest i (length all) within)
-
 at_zero : (a i : ℕ) → i ≡ a → a ≡ 0 + i
 at_zero a i e = omega (arith, e)
 
@@ -364,18 +359,18 @@ module _ (shards i : ℕ) (key : Value) (all : List Rows) (d : Rows) (spread : A
   -- it says what all say of the key
   pub row_here : row_of (get_or all i d) key ≡ row_of (union all) key
   row_here =
-      ap (λ (r : Rows). finite.get r (Canon key)) (any_default all i d finite.empty within)
+      ap (λ (r : Rows). finite.get r (Canon key)) (get_or_default all i d finite.empty within)
       ∙ sym (get_union shards 0 i (Canon key) all spread at within)
 
   -- the row of the key changes in all as it does here
   pub changed_here : (change : Change) (new : Rows) → new ≡ changed (get_or all i d) key change → union (set all i new) ≡ changed (union all) key change
   changed_here change new leaves =
-      ap (λ (r : Rows). union (set all i r)) (leaves ∙ ap (λ (r : Rows). changed r key change) (any_default all i d finite.empty within))
+      ap (λ (r : Rows). union (set all i r)) (leaves ∙ ap (λ (r : Rows). changed r key change) (get_or_default all i d finite.empty within))
       ∙ union_changed shards 0 i key change all spread at within
 
   pub spread_here : (change : Change) (new : Rows) → new ≡ changed (get_or all i d) key change → AreSpreadFrom shards 0 (set all i new)
   spread_here change new leaves =
-      subst (λ (r : Rows). AreSpreadFrom shards 0 (set all i r)) (sym (leaves ∙ ap (λ (r : Rows). changed r key change) (any_default all i d finite.empty within)))
+      subst (λ (r : Rows). AreSpreadFrom shards 0 (set all i r)) (sym (leaves ∙ ap (λ (r : Rows). changed r key change) (get_or_default all i d finite.empty within)))
       (spread_changed shards 0 i key change all spread at)
 
   -- so a value that the key has here is one that it has in all, and where it has none it has none

@@ -161,8 +161,8 @@ module _ (id : ℤ) (old parts : List ShardRows) (given rows : List Rows) (i : �
   swap_given =
       map-set part_of parts i new ∙ ap (λ (ps : List Part). set ps i (part_of new)) is_given
       ∙ ap (set midway i) (
-        new_is
-        ∙ ap₂ (λ (p : Part) (r : Rows). record p { caches = with_rows_of p.caches id r }) part_is (row_is ∙ next_rows before id given i row)
+      new_is
+      ∙ ap₂ (λ (p : Part) (r : Rows). record p { caches = with_rows_of p.caches id r }) part_is (row_is ∙ next_rows before id given i row)
       )
       ∙ swapped before id given i (part_of part) row inside as_many ∙ ap (λ (n : ℕ). with_rows_in_parts before id (take n given)) (suc-eq-add-one i)
 
