@@ -10,21 +10,21 @@ use Rattle.ig_shards.specs.Spread.{either}
 use Rattle.ig_shards.proofs.MergeLemmas.{Entries, Lent, Merges, merge_start, all_at, step_right, step_left}
 use Rattle.ig_shards.proofs.merge.merged.Goals as goal
 
-pub loop-next-at-init : goal.loop-next-at-init
-loop-next-at-init c = record {
+pub loop-at-init : goal.loop-at-init
+loop-at-init c = record {
   of_left = omega arith;
   of_right = omega arith;
   keys = search rules;
   rows = λ a b of_left of_right apart. merge_start (lent_rows c.args.left.now) (lent_rows c.args.right.now) a b of_left of_right apart;
 }
 
-pub loop-next-at-preserved : goal.loop-next-at-preserved
-loop-next-at-preserved c =
+pub loop-at-preserved : goal.loop-at-preserved
+loop-at-preserved c =
     let left : List Lent = c.args.left.now in
     let right : List Lent = c.args.right.now in
-    let merged : List Lent = c.loop-next-at.merged.items in
-    let i : ℕ = c.loop-next-at.at in
-    let j : ℕ = c.loop-next-at.next in
+    let merged : List Lent = c.loop-at.merged.items in
+    let i : ℕ = c.loop-at.at in
+    let j : ℕ = c.loop-at.next in
     let x : Lent = c.index-left-at.result in
     let y : Lent = c.index-right-next.result in
     let in_left : i < length left = search rules in
@@ -32,7 +32,7 @@ loop-next-at-preserved c =
     let at_left : drop i left ≡ x ∷ drop (i + 1) left = split_at left i x in_left c.index-left-at.is in
     let at_right : drop j right ≡ y ∷ drop (j + 1) right = split_at right j y in_right c.index-right-next.is in
     let test : Bool = is_lt (by_bytes y.0.now x.0.now) in
-    let it = c.loop-next-at.invariant in
+    let it = c.loop-at.invariant in
     elim (cases_Bool test) [
       | inl less ↦
           let is : ◌≡◌ {A = Lent × ℕ × ℕ} c.first-step.result (y, i, j + 1) = c.first-step.ensures ∙ cond-true test (y, i, j + 1) (x, i + 1, j) less in
