@@ -15,4 +15,4 @@ loop-entry-preserved c =
 pub returns : goal.returns
 returns c =
     let done : length c.args.more.now ≤ c.loop-entry.entry-index = omega (arith, c.loop-entry-test.false) in
-    c.loop-entry.invariant ∙ ap (λ (l : List Lent). c.args.rows.now.items ++ l) (take_all c.loop-entry.entry-index c.args.more.now done)
+    record { ok = c.loop-entry.invariant ∙ ap (λ (l : List Lent). c.args.rows.now.items ++ l) (take_all c.loop-entry.entry-index c.args.more.now done) }

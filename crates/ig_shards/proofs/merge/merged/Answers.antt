@@ -15,7 +15,9 @@ loop-at-init c = record {
   of_left = omega arith;
   of_right = omega arith;
   keys = search rules;
-  rows = λ a b of_left of_right apart. merge_start (lent_rows c.args.left.now) (lent_rows c.args.right.now) a b of_left of_right apart;
+  rows = λ a b of_left of_right apart.
+      subst (λ (l : List Lent). Merges (lent_rows l) (lent_rows c.args.left.now) (lent_rows c.args.right.now) (finite.entries (either a b))) (sym c.new-merged.ensures.items)
+      (merge_start (lent_rows c.args.left.now) (lent_rows c.args.right.now) a b of_left of_right apart);
 }
 
 pub loop-at-preserved : goal.loop-at-preserved
@@ -59,3 +61,9 @@ loop-at-preserved c =
                 (step_left left right merged i j x y (finite.entries (either a b)) at_left at_right (it.rows a b of_left of_right apart) more));
           }
     ]
+
+pub returns-clause-rows : goal.returns-clause-rows
+returns-clause-rows c = ?
+
+pub returns-clause-keys : goal.returns-clause-keys
+returns-clause-keys c = ?
