@@ -1,10 +1,9 @@
 use Rattle.std.proofs.Common.{◌≡◌, ◌≤◌, ◌+◌, ℕ, List, [], ◌∷◌, ◌++◌, length, take, drop, map, All, ap, sym, subst, ◌∙◌, arith, rules}
 use Rattle.std.proofs.lemmas.List.{take_all, map_push}
-use Rattle.std.specs.FinMap as finite
 use Rattle.ig_caches.specs.declared.call.Pair.{Pair}
 use Rattle.ig_caches.specs.LentRows.{lent_row, lent_rows, HasKey}
 use Rattle.ig_caches.proofs.ItemLemmas.{split_at, taken_at}
-use Rattle.ig_shards.proofs.MergeLemmas.{Lent, Entries, all_at}
+use Rattle.ig_shards.proofs.MergeLemmas.{Lent, all_at}
 use Rattle.ig_shards.proofs.merge.copies.Goals as goal
 
 abbrev row_of_entry : List ℕ × Pair → Pair
@@ -37,4 +36,5 @@ pub returns : goal.returns
 returns c =
     let es : List Lent = c.as_slice-entry-items.result.now in
     let done : length es ≤ c.loop-entry.entry-index = omega (arith, c.loop-entry-test.false) in
-    search rules
+    c.new.ensures ∙ c.loop-entry.invariant ∙ ap (λ (l : List Lent). map row_of_entry (lent_rows l)) (take_all c.loop-entry.entry-index es done ∙ c.as_slice-entry-items.ensures.value)
+    ∙ ap (map row_of_entry) c.in_ok-entries.ensures.rows
