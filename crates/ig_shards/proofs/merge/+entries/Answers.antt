@@ -13,7 +13,7 @@ entries-requires-in_default t c =
     let all : List Rows = c.args.shards.now in
     let count : ℕ = c.requires.0 in
     let next : ℕ = c.requires.1 in
-    let less : length c.split_at.result.0.now < length all = omega (arith, c.split_at.ensures.front_len, c.in_default.len_at_least) in
+    let less : length c.split_at.result.0.now < t = omega (arith, c.decreases, c.split_at.ensures.front_len, c.in_default.len_at_least) in
     (less, (count, next, subst (ArePlacedFrom count next) (sym c.split_at.ensures.front) (placed_take count next (length all / 2) all c.requires.2)))
 
 pub entries-requires-in_default-2 : goal.entries-requires-in_default-2
@@ -21,7 +21,7 @@ entries-requires-in_default-2 t c =
     let all : List Rows = c.args.shards.now in
     let count : ℕ = c.requires.0 in
     let next : ℕ = c.requires.1 in
-    let less : length c.split_at.result.1.now < length all = omega (arith, c.split_at.ensures.back_len, c.in_default.len_at_least) in
+    let less : length c.split_at.result.1.now < t = omega (arith, c.decreases, c.split_at.ensures.back_len, c.in_default.len_at_least) in
     (less, (count, next + length all / 2, subst (ArePlacedFrom count (next + length all / 2)) (sym c.split_at.ensures.back) (placed_drop count next (length all / 2) all c.requires.2)))
 
 pub returns-in-empty-clause-rows : goal.returns-in-empty-clause-rows
