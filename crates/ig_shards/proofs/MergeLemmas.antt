@@ -1,5 +1,5 @@
 -- Merging the ordered rows of two.
-use Rattle.std.proofs.Common.{◌≡◌, ◌<◌, ◌≤◌, ◌+◌, ◌⊎◌, T, ◌&&◌, ℕ, zero, suc, Bool, true, false, List, [], ◌∷◌, ◌++◌, length, take, drop, Option, None, Some, refl, sym, ap, ap₂, ◌∙◌, subst, subst₂, All, inl, inr, append-nil, arith}
+use Rattle.std.proofs.Common.{◌≡◌, ◌<◌, ◌≤◌, ◌+◌, ◌⊎◌, T, ◌&&◌, ℕ, zero, suc, Bool, true, false, List, [], ◌∷◌, ◌++◌, length, take, drop, get_or, Option, None, Some, refl, sym, ap, ap₂, ◌∙◌, subst, subst₂, All, inl, inr, append-nil, arith}
 use Rattle.std.proofs.lemmas.Bool.{cases_Bool, cond-true, cond-false}
 use Rattle.std.proofs.Math.ListN.{drop_of_length-le}
 use Rattle.std.proofs.lemmas.List.{append_assoc, nil_from_length, take-append-drop, map-append, map_push}
@@ -340,3 +340,8 @@ halves_apart shards next n all long placed =
 
 pub one_shard : (rows : Rows) → union (rows ∷ []) ≡ rows
 one_shard rows = either_none rows
+
+pub only_one : (all : List Rows) (rows d : Rows) → 1 ≤ length all → length all < 2 → rows ≡ get_or all 0 d → all ≡ rows ∷ []
+only_one [] rows d some few is = absurd (omega (arith, some))
+only_one (first ∷ []) rows d some few is = ap (λ (r : Rows). r ∷ []) (sym is)
+only_one (first ∷ second ∷ others) rows d some few is = absurd (omega (arith, few))

@@ -23,6 +23,3 @@ pub use shard_rows::ShardRows;
 pub use shards::Shards;
 pub use touch::Touched;
 pub use touching::touched;
-
-#[cfg(test)]
-mod tests;

@@ -12,7 +12,7 @@ loop-entry-preserved c =
     c.in_ok-push.ensures.items ∙ ap (λ (l : List Lent). l ++ entry ∷ []) c.loop-entry.invariant ∙ append_assoc old (take i c.args.more.now) (entry ∷ [])
     ∙ ap (λ (l : List Lent). old ++ l) (sym (taken_at c.args.more.now i entry c.loop-entry-test.true c.entry-item.is))
 
-pub returns-clause-ok : goal.returns-clause-ok
-returns-clause-ok c =
+pub returns : goal.returns
+returns c =
     let done : length c.args.more.now ≤ c.loop-entry.entry-index = omega (arith, c.loop-entry-test.false) in
-    c.loop-entry.invariant ∙ ap (λ (l : List Lent). c.args.rows.now.items ++ l) (take_all c.loop-entry.entry-index c.args.more.now done)
+    record { ok = c.loop-entry.invariant ∙ ap (λ (l : List Lent). c.args.rows.now.items ++ l) (take_all c.loop-entry.entry-index c.args.more.now done) }

@@ -4,4 +4,4 @@ use Rattle.ig_shards.proofs.merge.copies.Given as goal
 
 -- the rows so far are copied
 abbrev pub invariant-loop-entry : goal.invariant-loop-entry
-invariant-loop-entry l = l.copies.items ≡ map (λ e. e.1) (lent_rows (take l.entry-index l.entries.items))
+invariant-loop-entry l = l.copies.items ≡ map (λ e. e.1) (lent_rows (take l.entry-index l.entry-items))

@@ -8,8 +8,8 @@ use Rattle.ig_shards.proofs.MergeLemmas.{Merges}
 use Rattle.ig_shards.proofs.merge.merged.Given as goal
 
 -- the rows so far, and then those that are left of both in order, are the rows of both in order
-abbrev pub invariant-loop-next-at : goal.invariant-loop-next-at
-invariant-loop-next-at l = record {
+abbrev pub invariant-loop-at : goal.invariant-loop-at
+invariant-loop-at l = record {
   of_left : l.at ≤ length l.left;
   of_right : l.next ≤ length l.right;
   keys : All HasKey l.merged.items;
@@ -17,5 +17,5 @@ invariant-loop-next-at l = record {
       → Merges (lent_rows l.merged.items) (lent_rows (drop l.at l.left)) (lent_rows (drop l.next l.right)) (finite.entries (either a b));
 }
 
-abbrev pub decreases-loop-next-at : goal.decreases-loop-next-at
-decreases-loop-next-at l = (length l.left - l.at) + (length l.right - l.next)
+abbrev pub decreases-loop-at : goal.decreases-loop-at
+decreases-loop-at l = (length l.left - l.at) + (length l.right - l.next)

@@ -1,4 +1,4 @@
-use Rattle.std.proofs.Common.{◌≡◌, ◌≤◌, ◌+◌, ℕ, Bool, List, length, take, get_or, ap, ◌∙◌, subst, arith}
+use Rattle.std.proofs.Common.{◌≡◌, ◌≤◌, ◌+◌, ℕ, Bool, List, length, take, get_or, ◌∙◌, subst, arith}
 use Rattle.std.proofs.lemmas.List.{take_all}
 use Rattle.ig_caches.specs.declared.call.Pair.{Pair}
 use Rattle.ig_caches.specs.Rows.{Rows}
@@ -10,8 +10,8 @@ pub loop-pair-preserved : goal.loop-pair-preserved
 loop-pair-preserved c =
     let pairs : List Pair = c.args.pairs.now in
     let i : ℕ = c.loop-pair.pair-index in
-    let pair : Pair = get_or pairs i c.pair-item.result in
-    let is : pair ≡ get_or pairs i pair = ap (get_or pairs i) c.pair-item.is in
+    let pair : Pair = c.pair-item.result in
+    let is : pair ≡ get_or pairs i pair = c.pair-item.is in
     let old : Rows = c.args.self.now.1 in
     let now : Rows = c.loop-pair.self.1 in
     let new : Rows = c.reserve_one.new.self.1 in
@@ -30,20 +30,20 @@ loop-pair-preserved c =
 pub returns-in_err-reserve_one-clause-marked : goal.returns-in_err-reserve_one-clause-marked
 returns-in_err-reserve_one-clause-marked c =
     let it = c.loop-pair.invariant in
-    left_marked c.args.self.now.1 c.loop-pair.self.1 c.reserve_one.new.self.1 c.loop-pair.marks.items c.reserve_one.new.marks.items c.args.pairs.now c.loop-pair.pair-index (get_or c.args.pairs.now c.loop-pair.pair-index c.pair-item.result)
-    it.count c.loop-pair-test.true (ap (get_or c.args.pairs.now c.loop-pair.pair-index) c.pair-item.is) it.marked it.new c.in_err-reserve_one.ensures.err
+    left_marked c.args.self.now.1 c.loop-pair.self.1 c.reserve_one.new.self.1 c.loop-pair.marks.items c.reserve_one.new.marks.items c.args.pairs.now c.loop-pair.pair-index c.pair-item.result
+    it.count c.loop-pair-test.true c.pair-item.is it.marked it.new c.in_err-reserve_one.ensures.err
 
 pub returns-in_err-reserve_one-clause-new : goal.returns-in_err-reserve_one-clause-new
 returns-in_err-reserve_one-clause-new c =
     let it = c.loop-pair.invariant in
-    left_new c.args.self.now.1 c.loop-pair.self.1 c.reserve_one.new.self.1 c.loop-pair.marks.items c.reserve_one.new.marks.items c.args.pairs.now c.loop-pair.pair-index (get_or c.args.pairs.now c.loop-pair.pair-index c.pair-item.result)
-    it.count c.loop-pair-test.true (ap (get_or c.args.pairs.now c.loop-pair.pair-index) c.pair-item.is) it.marked it.new c.in_err-reserve_one.ensures.err
+    left_new c.args.self.now.1 c.loop-pair.self.1 c.reserve_one.new.self.1 c.loop-pair.marks.items c.reserve_one.new.marks.items c.args.pairs.now c.loop-pair.pair-index c.pair-item.result
+    it.count c.loop-pair-test.true c.pair-item.is it.marked it.new c.in_err-reserve_one.ensures.err
 
 pub returns-in_err-reserve_one-clause-within : goal.returns-in_err-reserve_one-clause-within
 returns-in_err-reserve_one-clause-within c =
     let it = c.loop-pair.invariant in
-    left_within c.args.self.now.1 c.loop-pair.self.1 c.reserve_one.new.self.1 c.loop-pair.marks.items c.reserve_one.new.marks.items c.args.pairs.now c.loop-pair.pair-index (get_or c.args.pairs.now c.loop-pair.pair-index c.pair-item.result)
-    it.count c.loop-pair-test.true (ap (get_or c.args.pairs.now c.loop-pair.pair-index) c.pair-item.is) it.marked it.new c.in_err-reserve_one.ensures.err
+    left_within c.args.self.now.1 c.loop-pair.self.1 c.reserve_one.new.self.1 c.loop-pair.marks.items c.reserve_one.new.marks.items c.args.pairs.now c.loop-pair.pair-index c.pair-item.result
+    it.count c.loop-pair-test.true c.pair-item.is it.marked it.new c.in_err-reserve_one.ensures.err
 
 pub returns-clause-ok : goal.returns-clause-ok
 returns-clause-ok c =

@@ -1,9 +1,9 @@
 ghost use Rattle.std.specs.Prelude.{◌≡◌, ◌≢◌, [], All, IfSome, IfOk};
 ghost use Rattle.ig_caches.specs.IsRunnable.{IsItem, IsRow, IsRunnable};
 
-use super::*;
 use ig_base::{Items, Octets, Text, text_hash};
 use ig_caches::{Caches, Call, Exec, Outcome, Pair, StartFault};
+use ig_shards::{Shards, Touched, shard_of, touched};
 use ig_types::{FieldMeta, TypeMeta};
 use ig_value::Value;
 use std::alloc::{AllocError, Global};
