@@ -16,7 +16,7 @@ use Rattle.ig_value.specs.declared.value.Value.{Value}
 use Rattle.ig_value.specs.Canon.{Canon}
 use Rattle.ig_caches.specs.declared.call.Pair.{Pair}
 use Rattle.ig_caches.specs.declared.answer.Outcome.{Outcome}
-use Rattle.ig_caches.specs.Rows.{Rows, row_of, value_of, has_row, with_row, without_row}
+use Rattle.ig_caches.specs.Rows.{Rows, row_of, value_of, has_row}
 use Rattle.ig_caches.specs.Effect.{Change, keep, store, remove, changed, at_key}
 use Rattle.ig_caches.proofs.RowEntryLemmas.{by_bytes, ties, tied_same, same_tied, same_rows}
 use Rattle.ig_shards.specs.ShardOf.{shard_of}

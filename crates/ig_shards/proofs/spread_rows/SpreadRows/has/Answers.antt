@@ -1,4 +1,4 @@
-use Rattle.std.proofs.Common.{◌≡◌, ℕ, is_some, ap, ◌∙◌, rules}
+use Rattle.std.proofs.Common.{ℕ, is_some, ap, ◌∙◌, rules}
 use Rattle.ig_caches.specs.Rows.{Rows, has_row}
 use Rattle.ig_caches.specs.Effect as effect
 use Rattle.ig_shards.proofs.SpreadLemmas.{IsItsShard, its_shard, row_here, changed_here, spread_here}

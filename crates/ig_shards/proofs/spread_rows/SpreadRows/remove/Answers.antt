@@ -1,4 +1,4 @@
-use Rattle.std.proofs.Common.{◌≡◌, ℕ, ap, ◌∙◌, rules}
+use Rattle.std.proofs.Common.{ℕ, ap, ◌∙◌, rules}
 use Rattle.ig_caches.specs.Rows.{Rows, without_row}
 use Rattle.ig_caches.specs.Effect as effect
 use Rattle.ig_shards.proofs.SpreadLemmas.{IsItsShard, its_shard, changed_here, spread_here}
