@@ -17,7 +17,7 @@ use Rattle.ig_caches.specs.Rows.{Rows, has_row, with_row, without_row, with_rows
 use Rattle.ig_caches.specs.Reserved.{has_key}
 use Rattle.ig_caches.proofs.ItemLemmas.{taken_at}
 use Rattle.ig_caches.proofs.RowEntryLemmas.{ties, tied_same, same_tied, same_rows}
-use Rattle.ig_caches.proofs.ReserveLemmas.{same_written, written_keeps}
+use Rattle.ig_caches.proofs.ReserveLemmas.{same_written}
 use Rattle.ig_shards.specs.Marks.{is_marked, AreNew, IsMarked, HasRows, IsReserved, IsLeft}
 
 or_none : (b : Bool) → (b || false) ≡ b

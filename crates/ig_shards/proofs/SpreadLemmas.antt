@@ -16,7 +16,7 @@ use Rattle.ig_value.specs.declared.value.Value.{Value}
 use Rattle.ig_value.specs.Canon.{Canon}
 use Rattle.ig_caches.specs.declared.call.Pair.{Pair}
 use Rattle.ig_caches.specs.declared.answer.Outcome.{Outcome}
-use Rattle.ig_caches.specs.Rows.{Rows, row_of, value_of, has_row, with_row, without_row}
+use Rattle.ig_caches.specs.Rows.{Rows, row_of, value_of, has_row}
 use Rattle.ig_caches.specs.Effect.{Change, keep, store, remove, changed, at_key}
 use Rattle.ig_caches.proofs.RowEntryLemmas.{by_bytes, ties, tied_same, same_tied, same_rows}
 use Rattle.ig_shards.specs.ShardOf.{shard_of}
@@ -352,33 +352,47 @@ no_value : (o : Option Pair) → option_map (λ (row : Pair). row.value) o ≡ N
 no_value None is = refl
 no_value (Some row) is = absurd (cc)
 
-module _ (shards i : ℕ) (key : Value) (all : List Rows) (d : Rows) (spread : AreSpreadFrom shards 0 all) (is : i ≡ shard_of shards (Canon key)) (within : i < length all) where
+-- the shard with this number, of all, is that of the key
+pub record IsItsShard (shards i : ℕ) (key : Value) (all : List Rows) : Type 0 where
+  pub spread : AreSpreadFrom shards 0 all
+  pub is : i ≡ shard_of shards (Canon key)
+  pub within : i < length all
+
+pub its_shard : {shards i : ℕ} {key : Value} {all : List Rows} (count : ℕ) → AreSpreadFrom shards 0 all → i ≡ shard_of count (Canon key) → i < count → count ≡ shards → IsItsShard shards i key all
+its_shard {shards} {i} {key} {all} count spread is less same = record {
+  spread = spread;
+  is = is ∙ ap (λ n. shard_of n (Canon key)) same;
+  within = let many : 0 + length all ≡ shards = spread_length shards 0 all spread in omega (arith, less, same, many);
+}
+
+module _ {shards i : ℕ} {key : Value} {all : List Rows} (it : IsItsShard shards i key all) (here : Rows) where
   at : shard_of shards (Canon key) ≡ 0 + i
-  at = at_zero (shard_of shards (Canon key)) i is
+  at = at_zero (shard_of shards (Canon key)) i it.is
+
+  same_here : get_or all i here ≡ get_or all i finite.empty
+  same_here = get_or_default all i here finite.empty it.within
 
   -- it says what all say of the key
-  pub row_here : row_of (get_or all i d) key ≡ row_of (union all) key
-  row_here =
-      ap (λ (r : Rows). finite.get r (Canon key)) (get_or_default all i d finite.empty within)
-      ∙ sym (get_union shards 0 i (Canon key) all spread at within)
+  pub row_here : here ≡ get_or all i here → row_of here key ≡ row_of (union all) key
+  row_here value = ap (λ (r : Rows). finite.get r (Canon key)) (value ∙ same_here) ∙ sym (get_union shards 0 i (Canon key) all it.spread at it.within)
 
   -- the row of the key changes in all as it does here
-  pub changed_here : (change : Change) (new : Rows) → new ≡ changed (get_or all i d) key change → union (set all i new) ≡ changed (union all) key change
-  changed_here change new leaves =
-      ap (λ (r : Rows). union (set all i r)) (leaves ∙ ap (λ (r : Rows). changed r key change) (get_or_default all i d finite.empty within))
-      ∙ union_changed shards 0 i key change all spread at within
+  pub changed_here : (change : Change) (new : Rows) → here ≡ get_or all i here → new ≡ changed here key change → union (set all i new) ≡ changed (union all) key change
+  changed_here change new value leaves =
+      ap (λ (r : Rows). union (set all i r)) (leaves ∙ ap (λ (r : Rows). changed r key change) (value ∙ same_here))
+      ∙ union_changed shards 0 i key change all it.spread at it.within
 
-  pub spread_here : (change : Change) (new : Rows) → new ≡ changed (get_or all i d) key change → AreSpreadFrom shards 0 (set all i new)
-  spread_here change new leaves =
-      subst (λ (r : Rows). AreSpreadFrom shards 0 (set all i r)) (sym (leaves ∙ ap (λ (r : Rows). changed r key change) (get_or_default all i d finite.empty within)))
-      (spread_changed shards 0 i key change all spread at)
+  pub spread_here : (change : Change) (new : Rows) → here ≡ get_or all i here → new ≡ changed here key change → AreSpreadFrom shards 0 (set all i new)
+  spread_here change new value leaves =
+      subst (λ (r : Rows). AreSpreadFrom shards 0 (set all i r)) (sym (leaves ∙ ap (λ (r : Rows). changed r key change) (value ∙ same_here)))
+      (spread_changed shards 0 i key change all it.spread at)
 
   -- so a value that the key has here is one that it has in all, and where it has none it has none
-  pub has_here : (v : Value) → value_of (get_or all i d) key ≡ Some v → has_row (union all) key ≡ true
-  has_here v is = ap is_some (sym row_here) ∙ some_value (row_of (get_or all i d) key) v is
+  pub has_here : (v : Value) → here ≡ get_or all i here → value_of here key ≡ Some v → has_row (union all) key ≡ true
+  has_here v value is = ap is_some (sym (row_here value)) ∙ some_value (row_of here key) v is
 
-  pub none_here : value_of (get_or all i d) key ≡ None → has_row (union all) key ≡ false
-  none_here is = ap is_some (sym row_here) ∙ no_value (row_of (get_or all i d) key) is
+  pub none_here : here ≡ get_or all i here → value_of here key ≡ None → has_row (union all) key ≡ false
+  none_here value is = ap is_some (sym (row_here value)) ∙ no_value (row_of here key) is
 
 -- ---- a list that was lent and written
 -- as many items as there were take the place of all

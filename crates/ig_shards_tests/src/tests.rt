@@ -1,4 +1,4 @@
-ghost use Rattle.std.specs.Prelude.{◌≡◌, ◌≢◌, [], All, IfSome, IfOk};
+ghost use Rattle.std.specs.Prelude.{◌≡◌, ◌≢◌, ◌≤◌, [], All, IfSome, IfOk};
 ghost use Rattle.ig_caches.specs.IsRunnable.{IsItem, IsRow, IsRunnable};
 
 use ig_base::{Items, Octets, Text, text_hash};
@@ -31,11 +31,18 @@ fn small(seed: &mut u64) -> i32 {
     i32::try_from(below(seed, 24)).unwrap_or(0)
 }
 
+/// The value of a number.
+fn int(number: i32) -> Value
+    ensures { IsItem result }
+{
+    Value::Int(number)
+}
+
 /// A random key or value.
 fn item(seed: &mut u64) -> Value
     ensures { IsItem result }
 {
-    Value::Int(small(seed))
+    int(small(seed))
 }
 
 fn items(alloc: Global, seed: &mut u64) -> Result<Items<Value>, AllocError>
@@ -112,35 +119,33 @@ fn put_call(kind: u64, cache: i32, key: Value, seed: &mut u64) -> Call
 fn rows_call(alloc: Global, kind: u64, cache: i32, seed: &mut u64) -> Result<Call, AllocError>
     ensures { IfOk result IsRunnable }
 {
-    Ok(match kind {
-        13 => Call::GetAll {
-            cache,
-            keys: items(alloc, seed)?,
-        },
-        14 => Call::ContainsKeys {
-            cache,
-            keys: items(alloc, seed)?,
-        },
-        15 => Call::ClearKeys {
-            cache,
-            keys: items(alloc, seed)?,
-        },
-        16 => Call::RemoveKeys {
-            cache,
-            keys: items(alloc, seed)?,
-        },
-        17 => Call::PutAll {
-            cache,
-            pairs: pairs(alloc, seed)?,
-        },
-        18 => Call::Clear { cache },
-        19 => Call::RemoveAll { cache },
-        20 => Call::Scan { cache },
-        _ => Call::Size {
+    match kind {
+        17 => {
+            let pairs = pairs(alloc, seed)?;
+            Ok(Call::PutAll { cache, pairs })
+        }
+        18 => Ok(Call::Clear { cache }),
+        19 => Ok(Call::RemoveAll { cache }),
+        20 => Ok(Call::Scan { cache }),
+        21 => Ok(Call::Size {
             cache,
             modes: Octets::empty(alloc),
-        },
-    })
+        }),
+        _ => keys_call(alloc, kind, cache, seed),
+    }
+}
+
+/// The same of the calls on several keys.
+fn keys_call(alloc: Global, kind: u64, cache: i32, seed: &mut u64) -> Result<Call, AllocError>
+    ensures { IfOk result IsRunnable }
+{
+    let keys = items(alloc, seed)?;
+    match kind {
+        13 => Ok(Call::GetAll { cache, keys }),
+        14 => Ok(Call::ContainsKeys { cache, keys }),
+        15 => Ok(Call::ClearKeys { cache, keys }),
+        _ => Ok(Call::RemoveKeys { cache, keys }),
+    }
 }
 
 /// A name that isn't empty.
@@ -252,7 +257,8 @@ fn names(alloc: Global, words: &[&str]) -> Result<Vec<Text>, AllocError> {
 
 /// The number of the first of as many random calls that plain caches and shards answer in different ways.
 fn difference(alloc: Global, shards: u32, calls: u32) -> Result<Option<u32>, AllocError>
-    requires { 1 ≤ shards × shards ≤ 256 }
+    requires some { 1 ≤ shards }
+    requires few { shards ≤ 256 }
 {
     let Ok(mut plain) = Caches::start(alloc, names(alloc, &["main"])?) else {
         return Ok(Some(calls));
@@ -307,8 +313,8 @@ fn rows(alloc: Global, numbers: &[i32]) -> Result<Items<Pair>, AllocError>
     let mut pairs = Vec::new(alloc);
     for number in numbers {
         pairs.push(Pair {
-            key: Value::Int(*number),
-            value: Value::Int(*number),
+            key: int(*number),
+            value: int(*number),
         })?;
     }
     Ok(Items::new(pairs))
@@ -319,7 +325,7 @@ fn keys(alloc: Global, numbers: &[i32]) -> Result<Items<Value>, AllocError>
 {
     let mut keys = Vec::new(alloc);
     for number in numbers {
-        keys.push(Value::Int(*number))?;
+        keys.push(int(*number))?;
     }
     Ok(Items::new(keys))
 }

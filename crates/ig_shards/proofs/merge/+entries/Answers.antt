@@ -5,7 +5,7 @@ use Rattle.ig_caches.specs.LentRows.{lent_rows}
 use Rattle.ig_caches.specs.Rows.{Rows}
 use Rattle.ig_shards.specs.Spread.{either, union}
 use Rattle.ig_shards.specs.Merges.{AreApart, ArePlacedFrom}
-use Rattle.ig_shards.proofs.MergeLemmas.{Lent, no_entries, placed_take, placed_drop, union_halves, halves_apart, one_shard, only_one}
+use Rattle.ig_shards.proofs.MergeLemmas.{no_entries, placed_take, placed_drop, union_halves, halves_apart, one_shard, only_one}
 use Rattle.ig_shards.proofs.merge.+entries.Goals as goal
 
 pub entries-requires-in_default : goal.entries-requires-in_default

@@ -1,10 +1,9 @@
-use Rattle.std.proofs.Common.{◌≡◌, ◌<◌, ◌≤◌, ◌+◌, ℕ, Bool, true, false, cond, List, [], ◌∷◌, ◌++◌, length, take, drop, ◌-◌, All, is_lt, ap, ap₂, sym, subst, ◌⊎◌, ◌∙◌, inl, inr, arith, rules}
+use Rattle.std.proofs.Common.{◌≡◌, ◌<◌, ◌≤◌, ◌+◌, ℕ, Bool, List, [], ◌∷◌, ◌++◌, length, take, drop, ◌-◌, All, is_lt, ap, ap₂, sym, subst, ◌⊎◌, ◌∙◌, inl, inr, arith, rules}
 use Rattle.std.proofs.lemmas.Bool.{cases_Bool, cond-true, cond-false}
 use Rattle.std.proofs.lemmas.List.{take_all, length-drop}
 use Rattle.std.proofs.lemmas.List.Elements.{All-push, All-append, All-drop}
 use Rattle.std.specs.FinMap as finite
 use Rattle.ig_caches.specs.LentRows.{lent_rows, HasKey}
-use Rattle.ig_caches.specs.Rows.{Rows}
 use Rattle.ig_caches.proofs.ItemLemmas.{split_at}
 use Rattle.ig_caches.proofs.RowEntryLemmas.{by_bytes}
 use Rattle.ig_shards.specs.Spread.{either}

@@ -1,4 +1,4 @@
-use Rattle.std.proofs.Common.{◌≡◌, ◌+◌, ◌%◌, ◌^◌, ℕ, List, Option, Some, None, sym, ap, ◌∙◌}
+use Rattle.std.proofs.Common.{◌≡◌, ℕ, List, Option, Some, None, sym, ap, ◌∙◌}
 use Rattle.ig_value.specs.Canon.{Canon}
 use Rattle.ig_encode.specs.declared.measure.Digest.{Digest}
 use Rattle.ig_encode.specs.declared.measure.Measure.{Measure}

@@ -1,4 +1,4 @@
-use Rattle.std.proofs.Common.{◌≡◌, ℕ, List, IfOk, ap, sym, subst, ◌∙◌}
+use Rattle.std.proofs.Common.{◌≡◌, ℕ, IfOk, ap, sym, subst, ◌∙◌}
 use Rattle.ig_caches.specs.Rows.{Rows, all_rows}
 use Rattle.ig_shards.specs.Spread.{union}
 use Rattle.ig_shards.specs.Merges.{ArePlacedFrom}

@@ -1,4 +1,4 @@
-use Rattle.std.proofs.Common.{◌≡◌, pos, ap, sym, subst, ◌∙◌}
+use Rattle.std.proofs.Common.{pos, sym, subst}
 use Rattle.ig_value.specs.declared.value.Value.TheVariants as value
 use Rattle.ig_caches.specs.IsRunnable.{IsItem}
 use Rattle.ig_shards.proofs.MarkLemmas.{none_item, on_ok}

@@ -1,6 +1,3 @@
-use Rattle.std.proofs.Common.{◌≡◌, ℕ, Bool, List, OnOk, ap, sym, subst, ◌∙◌}
-use Rattle.ig_caches.specs.declared.call.Pair.{Pair}
-use Rattle.ig_caches.specs.Rows.{Rows, with_rows}
 use Rattle.ig_shards.proofs.MarkLemmas.{written_over_marked}
 use Rattle.ig_shards.proofs.spread_rows.SpreadRows.reserve.Goals as goal
 

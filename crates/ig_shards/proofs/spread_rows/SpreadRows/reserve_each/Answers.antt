@@ -1,9 +1,9 @@
-use Rattle.std.proofs.Common.{◌≡◌, ◌≤◌, ◌+◌, ℕ, Bool, List, length, take, get_or, ◌∙◌, subst, arith}
+use Rattle.std.proofs.Common.{◌≡◌, ◌≤◌, ℕ, Bool, List, length, get_or, ◌∙◌, subst, arith}
 use Rattle.std.proofs.lemmas.List.{take_all}
 use Rattle.ig_caches.specs.declared.call.Pair.{Pair}
 use Rattle.ig_caches.specs.Rows.{Rows}
 use Rattle.ig_shards.specs.Marks.{HasRows}
-use Rattle.ig_shards.proofs.MarkLemmas.{none_marked, none_new, no_keys, reserved_count, reserved_marked, reserved_new, reserved_stand, left_marked, left_new, left_within}
+use Rattle.ig_shards.proofs.MarkLemmas.{reserved_count, reserved_marked, reserved_new, reserved_stand, left_marked, left_new, left_within}
 use Rattle.ig_shards.proofs.spread_rows.SpreadRows.reserve_each.Goals as goal
 
 pub loop-pair-preserved : goal.loop-pair-preserved

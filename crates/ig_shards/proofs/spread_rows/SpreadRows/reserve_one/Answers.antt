@@ -1,5 +1,4 @@
 use Rattle.std.proofs.Common.{◌≡◌, ℕ, false, ap, sym, ◌∙◌, inr}
-use Rattle.ig_caches.specs.declared.call.Pair.{Pair}
 use Rattle.ig_caches.specs.Rows.{Rows, has_row, with_row}
 use Rattle.ig_shards.proofs.MarkLemmas.{on_ok}
 use Rattle.ig_shards.proofs.spread_rows.SpreadRows.reserve_one.Goals as goal
