@@ -1,5 +1,5 @@
 -- What a call on its shard alone is of all shards.
-use Rattle.std.proofs.Common.{◌≡◌, ◌<◌, ◌+◌, ◌++◌, ℕ, zero, suc, List, [], ◌∷◌, length, take, drop, get_or, set, Result, Ok, Err, IfOk, OnOk, IfErr, OnErr, refl, sym, ap, ◌∙◌, subst, arith}
+use Rattle.std.proofs.Common.{◌≡◌, ◌<◌, ◌≤◌, ◌+◌, ◌++◌, ℕ, zero, suc, List, [], ◌∷◌, length, take, drop, get_or, set, Result, Ok, Err, IfOk, OnOk, IfErr, OnErr, refl, sym, ap, ◌∙◌, subst, arith}
 use Rattle.std.proofs.Math.ListN.{get_or-map}
 use Rattle.std.proofs.lemmas.List.{set-get_or, length-take, length-map, map-set}
 use Rattle.std.proofs.lemmas.List.Elements.{All-cons, All-head, All-tail}
@@ -17,6 +17,7 @@ use Rattle.ig_shards.specs.Touches.{touches}
 use Rattle.ig_shards.specs.Parts.{Part, both, together, heads, AreAlike, IsPart, AreNumbered, AllAlike, AreAll}
 use Rattle.ig_shards.specs.PartView.{part_of, parts_of}
 use Rattle.ig_shards.specs.Laws.{NeedsItsShardAlone}
+use Rattle.ig_shards.proofs.WholeLemmas.{few_parts, not_none}
 use Rattle.ig_shards.proofs.PartLemmas.{IsApart, apart, alone, apart_keeps, number_at, part_at, alike_at, both_none, split_parts, split_set, numbered_set, alike_set}
 
 -- an answer is the outcome with the count after it
@@ -159,6 +160,10 @@ run_keeps call old new (Ok answer) runs = tt
 run_keeps call old new (Err e) runs = runs.1
 
 -- ---- a shard in the list of all
+pub few_in_all : (shards : ℕ) (parts : List Part) → AreAll shards parts → shards ≤ 256
+few_in_all shards [] all = absurd (omega (arith, not_none shards [] all))
+few_in_all shards (part ∷ parts) all = few_parts shards 0 part parts all.numbered
+
 module _ (shards i : ℕ) (all : List ShardRows) (here new : ShardRows) (call : Call) (result : Result Answer (NoRoom Call)) (are_all : AreAll shards (parts_of all)) (within : i < length all)
     (at : here ≡ get_or all i here) (touches_it : touches call shards ≡ touched.One i) (number : new.number ≡ here.number) (count : new.shards ≡ here.shards)
     (runs : RunsOn call (part_of here).caches result (part_of new).caches) where

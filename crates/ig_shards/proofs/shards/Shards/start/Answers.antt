@@ -7,10 +7,4 @@ use Rattle.ig_shards.proofs.FreshLemmas.{fresh_parts, fresh_push}
 use Rattle.ig_shards.proofs.shards.Shards.start.Goals as goal
 
 pub loop-number-preserved : goal.loop-number-preserved
-loop-number-preserved c =
-    let names : List (List ℕ) = c.new-names.result in
-    let shards : ℕ = c.args.shards in
-    let number : ℕ = c.loop-number.number in
-    ap parts_of c.in-Ok.ensures.items ∙ map_push part_of c.loop-number.parts.items c.in_ok-part.part
-    ∙ ap₂ (λ (ps : List Part) (p : Part). ps ++ p ∷ []) c.loop-number.invariant c.in_ok-part.ensures.fresh
-    ∙ fresh_push names shards 0 number ∙ ap (fresh_parts names shards 0) (suc-eq-add-one number)
+loop-number-preserved c = ?

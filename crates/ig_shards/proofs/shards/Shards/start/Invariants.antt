@@ -5,4 +5,7 @@ use Rattle.ig_shards.proofs.shards.Shards.start.Given as goal
 
 -- the shards so far have the names
 abbrev pub invariant-loop-number : goal.invariant-loop-number
-invariant-loop-number l = parts_of l.parts.items ≡ fresh_parts l.names l.shards 0 l.number
+invariant-loop-number l = record {
+  names : l.names-inside.items.items ≡ l.fn.names.items;
+  made : parts_of l.parts.items ≡ fresh_parts l.fn.names.items l.shards 0 l.number;
+}
