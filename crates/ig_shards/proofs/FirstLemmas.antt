@@ -1,7 +1,8 @@
 -- Calls that the first shard answers for all, and calls that change each shard.
-use Rattle.std.proofs.Common.{◌≡◌, ◌<◌, ℕ, suc, ℤ, List, [], ◌∷◌, length, drop, get_or, set, All, Option, None, Result, Ok, Err, IsOk, refl, sym, ap, ◌∙◌, subst, subst₂, arith}
-use Rattle.std.proofs.Math.ListN.{get_or-map}
-use Rattle.std.proofs.lemmas.List.{set-get_or, map-set}
+use Rattle.std.proofs.Common.{◌≡◌, ◌<◌, ◌+◌, ◌++◌, ℕ, suc, ℤ, List, [], ◌∷◌, length, append-nil, take, drop, get_or, set, All, Option, None, Result, Ok, Err, IsOk, refl, sym, ap, ◌∙◌, subst, subst₂, arith}
+use Rattle.std.proofs.Math.ListN.{get_or-map, drop_of_length-le}
+use Rattle.std.proofs.lemmas.List.{set-get_or, map-set, take_all, length-map, get_or_default}
+use borrow.Rule.Slice.PartMut.{put_mid}
 use Rattle.std.proofs.lemmas.List.Elements.{All-nil, All-cons, All-head, All-tail}
 use Rattle.ig_base.specs.declared.memory.NoRoom.{NoRoom}
 use Rattle.ig_caches.specs.declared.call.Call.{Call}
@@ -32,6 +33,21 @@ pub first_minor : (parts : List ShardRows) (first : ShardRows) → 0 < length pa
 first_minor [] first some is = absurd (omega (arith, some))
 first_minor (part ∷ parts) first some is = ap (λ (p : ShardRows). p.caches.minor) is
 
+-- the shards after the first
+pub after_first : (old : List ShardRows) (new : ShardRows) (k : ℕ) → length old ≡ 1 + k → parts_of (take k (drop 1 (set old 0 new))) ≡ drop 1 (parts_of old)
+after_first [] new k is = absurd (omega (arith, is))
+after_first (part ∷ parts) new k is = ap parts_of (take_all k parts (omega (arith, is)))
+
+pub many_after_first : (old : List ShardRows) (new : ShardRows) (k : ℕ) → length old ≡ 1 + k → length (take k (drop 1 (set old 0 new))) ≡ k
+many_after_first [] new k is = absurd (omega (arith, is))
+many_after_first (part ∷ parts) new k is = let all : take k parts ≡ parts = take_all k parts (omega (arith, is)) in omega (arith, ap length all, is)
+
+-- the first is written, and those after it
+pub first_written : (old : List ShardRows) (new : ShardRows) (left : List ShardRows) (k : ℕ) → length old ≡ 1 + k → put_mid 1 k (set old 0 new) left ≡ new ∷ left
+first_written [] new left k is = absurd (omega (arith, is))
+first_written (part ∷ parts) new left k is =
+    ap (λ (later : List ShardRows). new ∷ left ++ later) (drop_of_length-le parts (omega (arith, is))) ∙ ap (λ (later : List ShardRows). new ∷ later) (append-nil left)
+
 -- without the cache in one of shards that are alike there is none in any
 absent_each : (c : PlainCaches) (id : ℤ) (parts : List Part) → cache_of c.caches id ≡ None → AllAlike c parts → All (λ (part : Part). cache_of part.caches.caches id ≡ None) parts
 absent_each c id [] none all = All-nil (λ (part : Part). cache_of part.caches.caches id ≡ None)
@@ -50,6 +66,13 @@ module _ (shards : ℕ) (old : List ShardRows) (first : ShardRows) (all : AreAll
   pub first_and_others : parts_of old ≡ part_of first ∷ others
   unfolding others
   first_and_others = others_of.1
+
+  pub some_shards : 0 < length old
+  some_shards = omega (arith, not_none shards (parts_of old) all, length-map old part_of)
+
+  -- read again, it is the same
+  pub first_again : (again : ShardRows) → again ≡ get_or old 0 again → again ≡ first
+  first_again again is = is ∙ get_or_default old 0 again first some_shards ∙ sym at
 
   alike : AllAlike all.like (part_of first ∷ others)
   alike = subst (AllAlike all.like) first_and_others all.alike

@@ -17,6 +17,19 @@ use Rattle.ig_shards.specs.PartView.{part_of, parts_of}
 use Rattle.ig_shards.specs.RunsOnParts.{IsThe, AreThose, AreTouched}
 use Rattle.ig_shards.proofs.PartLemmas.{IsApart, apart, apart_keeps, both_none}
 
+-- a call on several rows touches all shards
+pub several_all : (call : Call) (shards : ℕ) → IsOnSeveral call → touches call shards ≡ All
+several_all (GetAll id keys) shards several = refl
+several_all (PutAll id pairs) shards several = refl
+several_all (ContainsKeys id keys) shards several = refl
+several_all (ClearKeys id keys) shards several = refl
+several_all (RemoveKeys id keys) shards several = refl
+several_all (Clear id) shards several = refl
+several_all (RemoveAll id) shards several = refl
+several_all (Scan id) shards several = refl
+several_all (Size id modes) shards several = refl
+several_all _ shards several = absurd several
+
 -- a call that touches all shards runs on several rows of a cache, or on all caches
 pub needs_all : (call : Call) (shards : ℕ) → (IsOnSeveral call → ⊥) → (call ≡ Names → ⊥) → ((name : List ℕ) → call ≡ Create name → ⊥) → ((name : List ℕ) → call ≡ GetOrCreate name → ⊥)
     → ((id : ℤ) → call ≡ Destroy id → ⊥) → touches call shards ≡ All → ⊥

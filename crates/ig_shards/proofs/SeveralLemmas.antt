@@ -1,5 +1,5 @@
 -- A call on several rows of a cache: its rows are taken out of the shards, the call runs on them, and they are put back.
-use Rattle.std.proofs.Common.{◌≡◌, ◌<◌, ◌≤◌, ◌+◌, ℕ, ℤ, true, List, length, take, drop, get_or, All, Some, Result, Ok, Err, refl, sym, ap, ◌∙◌, subst, arith}
+use Rattle.std.proofs.Common.{◌≡◌, ◌<◌, ◌≤◌, ◌+◌, ◌++◌, ℕ, ℤ, true, List, length, take, drop, get_or, All, Some, Result, Ok, Err, refl, sym, ap, ◌∙◌, subst, subst₂, arith}
 use Rattle.std.proofs.lemmas.List.{length-map}
 use Rattle.std.specs.FinMap as finite
 use Rattle.std.specs.List.{list_any}
@@ -19,7 +19,7 @@ use Rattle.ig_shards.specs.Spread.{union, AreSpreadFrom}
 use Rattle.ig_shards.specs.Parts.{Part, together, AreNumbered, AreAll}
 use Rattle.ig_shards.specs.PartView.{part_of, parts_of}
 use Rattle.ig_shards.specs.RowsOfParts.{rows_in_parts, rows_or, with_rows_in_parts}
-use Rattle.ig_shards.proofs.SpreadLemmas.{spread_length}
+use Rattle.ig_shards.proofs.SpreadLemmas.{spread_length, all_written}
 use Rattle.ig_shards.proofs.TogetherLemmas.{rows_together, spread_parts, all_taken}
 use Rattle.ig_shards.proofs.WholeLemmas.{present_in, number_of_parts, few_parts, not_none, all_with_rows_in, put_back, ran_all, failed_all}
 use Rattle.ig_shards.proofs.FirstLemmas.{first_part, first_minor, first_and_others, others}
@@ -85,3 +85,48 @@ pub few_shards : (shards : ℕ) (old : List ShardRows) (first : ShardRows) (all 
 few_shards shards old first all at =
     let others_here : List Part = others shards old first all at in
     few_parts shards 0 (part_of first) others_here (subst (AreNumbered shards 0) (first_and_others shards old first all at) all.numbered)
+
+-- the rows stand in a vector, and are lent whole
+module _ (shards : ℕ) (id : ℤ) (old mid : List ShardRows) (items none lent : List Rows) (len : ℕ) (all : AreAll shards (parts_of old)) (held : length items ≡ len) (value : none ≡ items)
+    (count : length items ≡ length old) (empty : All (λ (r : Rows). r ≡ finite.empty) items) (same_len : length lent ≡ length none)
+    (given : parts_of mid ≡ with_rows_in_parts (parts_of old) id none) (taken : lent ≡ rows_or (parts_of old) id none) where
+  many_none : length none ≡ length old
+  many_none = ap length value ∙ count
+
+  empty_none : All (λ (r : Rows). r ≡ finite.empty) none
+  empty_none = subst (λ (rs : List Rows). All (λ (r : Rows). r ≡ finite.empty) rs) (sym value) empty
+
+  pub len_is : len ≡ shards
+  len_is = omega (arith, held, same_len, ap length value, lent_length shards id old mid none lent all many_none empty_none given taken)
+
+  lent_whole : take len (lent ++ drop (length lent) items) ≡ lent
+  lent_whole = all_written lent items len (omega (arith, held, same_len, ap length value)) held
+
+  pub whole_spread : AreSpreadFrom len 0 (take len (lent ++ drop (length lent) items))
+  whole_spread =
+      subst₂ (λ (n : ℕ) (rs : List Rows). AreSpreadFrom n 0 rs) (sym len_is) (sym lent_whole)
+      (lent_spread shards id old mid none lent all many_none empty_none given taken)
+
+  -- and the changed ones are put back
+  module _ (new : List ShardRows) (items_left left : List Rows) (len_left : ℕ) (value_left : left ≡ items_left) (len_same : len_left ≡ len)
+      (back : parts_of new ≡ with_rows_in_parts (parts_of mid) id left) (spread : AreSpreadFrom len_left 0 items_left) where
+    spread_left : AreSpreadFrom shards 0 left
+    spread_left = subst₂ (λ (n : ℕ) (rs : List Rows). AreSpreadFrom n 0 rs) (len_same ∙ len_is) (sym value_left) spread
+
+    pub whole_back : AreAll shards (parts_of new)
+    whole_back = all_back shards id old mid none lent all many_none empty_none given taken new left back spread_left
+
+    module _ (call : Call) (first : ShardRows) (on : IsOnRowsOf id (effect call)) (at : first ≡ get_or old 0 first) (some : list_any (has_id id) (plain_caches first.caches).caches ≡ true) where
+      whole_runs : (result : Result Outcome (NoRoom Call)) → RunsOnRows call (union (take len (lent ++ drop (length lent) items))) result (union items_left)
+          → RunsOnRows call (union lent) result (union left)
+      whole_runs result ran = subst₂ (λ (a b : Rows). RunsOnRows call a result b) (ap union lent_whole) (ap union (sym value_left)) ran
+
+      pub whole_ran : (outcome : Outcome) (answer : Answer) → RunsOnRows call (union (take len (lent ++ drop (length lent) items))) (Ok outcome) (union items_left) → answer.outcome ≡ outcome
+          → answer.minor ≡ (together (parts_of new)).minor → RunsOn call (together (parts_of old)) (Ok answer) (together (parts_of new))
+      whole_ran outcome answer ran answers minor =
+          ran_back shards id old mid none lent all many_none empty_none given taken new left back spread_left call first on at some outcome answer (whole_runs (Ok outcome) ran) answers minor
+
+      pub whole_failed : (e : NoRoom Call) → RunsOnRows call (union (take len (lent ++ drop (length lent) items))) (Err e) (union items_left)
+          → RunsOn call (together (parts_of old)) (Err e) (together (parts_of new))
+      whole_failed e failed =
+          failed_back shards id old mid none lent all many_none empty_none given taken new left back spread_left call first on at some e (whole_runs (Err e) failed)

@@ -23,14 +23,15 @@ loop-at-preserved c =
     let id : ℤ = to_z w32 (of_z w32 c.args.cache) in
     let part : ShardRows = get_or parts i c.index-parts-at.result in
     let at_part : part ≡ get_or parts i part = ap (get_or parts i) c.index-parts-at.is in
-    let row : Rows = c.index-rows-at.result in
+    let row : Rows = get_or rows i c.index-rows-at.result in
+    let at_row : row ≡ get_or rows i row = ap (get_or rows i) c.index-rows-at.is in
     let new : ShardRows = record part { caches = c.swap_rows.new.self } in
     let left : Rows = c.swap_rows.new.rows in
     let within : i < length old = omega (arith, c.loop-at-test.true, c.loop-at.auto.parts) in
     record {
-      given = swap_given id old parts given rows i part new row left within c.requires at_part c.index-rows-at.is c.loop-at.invariant.given c.loop-at.invariant.taken refl refl
+      given = swap_given id old parts given rows i part new row left within c.requires at_part at_row c.loop-at.invariant.given c.loop-at.invariant.taken refl refl
           c.swap_rows.ensures.given c.swap_rows.ensures.taken;
-      taken = swap_taken id old parts given rows i part new row left within c.requires at_part c.index-rows-at.is c.loop-at.invariant.given c.loop-at.invariant.taken refl refl
+      taken = swap_taken id old parts given rows i part new row left within c.requires at_part at_row c.loop-at.invariant.given c.loop-at.invariant.taken refl refl
           c.swap_rows.ensures.given c.swap_rows.ensures.taken;
     }
 
