@@ -28,6 +28,3 @@ pub use request::{Page, Request, Shown};
 pub use row_many::count_all;
 pub use row_map::RowMap;
 pub use table::{Forms, copy_row};
-
-#[cfg(test)]
-mod tests;
