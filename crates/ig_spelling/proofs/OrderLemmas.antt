@@ -1,5 +1,6 @@
 -- The order of fronts, as that of the bytes.
-use Rattle.std.proofs.Common.{◌≡◌, ◌≢◌, ◌<◌, ◌≤◌, ◌+◌, ◌*◌, ℕ, zero, suc, min, List, [], ◌∷◌, ◌++◌, length, take, drop, true, false, Ordering, Less, Equal, Greater, nat_cmp, refl, sym, ap, ap₂, ◌∙◌, subst, arith, append_assoc, take-append-drop}
+use Rattle.std.proofs.Common.{◌≡◌, ◌≢◌, ◌<◌, ◌≤◌, ◌+◌, ◌-◌, ◌*◌, ℕ, zero, suc, min, List, [], ◌∷◌, ◌++◌, length, take, drop, true, false, Ordering, Less, Equal, Greater, nat_cmp, refl, sym, ap, ap₂, ◌∙◌, subst, arith, append_assoc, take-append-drop, get_or}
+use Rattle.std.proofs.lemmas.List.{drop-drop, drop_all, length-take, length-drop}
 use Rattle.std.proofs.Math.Nat.{suc-min-suc, zero-min, min-zero}
 use Rattle.std.specs.Ordering.{ordering_then, MatchOrdering, is_ne}
 use Rattle.std.specs.Cmp.{nat_cmp_is, ranked}
@@ -259,3 +260,56 @@ by_word a b i long in_a in_b =
     sym (ap₂ by_bytes (take-append-drop 8 (drop i a)) (take-append-drop 8 (drop i b)))
     ∙ cmp_after (take 8 (drop i a)) (take 8 (drop i b)) (drop 8 (drop i a)) (drop 8 (drop i b)) long
     ∙ ap (λ o. ordering_then o (by_bytes (drop 8 (drop i a)) (drop 8 (drop i b)))) (sym heads)
+
+-- each number that is read is a byte
+pub are_bytes : (bytes : List ℕ) → ((i : ℕ) → get_or bytes i 0 < 256) → AreBytes bytes
+are_bytes [] fits = tt
+are_bytes (b ∷ bytes) fits = (fits 0, are_bytes bytes (λ i. fits (suc i)))
+
+long_word : (i : ℕ) (bytes : List ℕ) → length bytes ≡ 24 → i + 8 ≤ 24 → length (take 8 (drop i bytes)) ≡ 8
+long_word i bytes long within =
+    let here : length (drop i bytes) ≡ length bytes - i = length-drop i bytes in
+    let there : length (take 8 (drop i bytes)) ≡ min 8 (length (drop i bytes)) = length-take 8 (drop i bytes) in
+    omega (arith, here, there, long, within)
+
+-- by eight bytes and then the rest, of lists of 24 bytes
+step : (a b : List ℕ) (i : ℕ) → length a ≡ 24 → length b ≡ 24 → i + 8 ≤ 24 → AreBytes a → AreBytes b
+    → by_bytes (drop i a) (drop i b) ≡ ordering_then (nat_cmp (word_at i a) (word_at i b)) (by_bytes (drop (i + 8) a) (drop (i + 8) b))
+step a b i long_a long_b within in_a in_b =
+    by_word a b i (long_word i a long_a within ∙ sym (long_word i b long_b within)) in_a in_b
+    ∙ ap (ordering_then (nat_cmp (word_at i a) (word_at i b))) (ap₂ by_bytes (drop-drop 8 i a) (drop-drop 8 i b))
+
+-- the order of 24 bytes is that of three numbers
+pub by_words : (a b : List ℕ) → length a ≡ 24 → length b ≡ 24 → AreBytes a → AreBytes b
+    → by_bytes a b ≡ ordering_then (nat_cmp (word_at 0 a) (word_at 0 b)) (ordering_then (nat_cmp (word_at 8 a) (word_at 8 b)) (nat_cmp (word_at 16 a) (word_at 16 b)))
+by_words a b long_a long_b in_a in_b =
+    let none_a : drop 24 a ≡ [] = drop_all 24 a (omega (arith, long_a)) in
+    let none_b : drop 24 b ≡ [] = drop_all 24 b (omega (arith, long_b)) in
+    let last : by_bytes (drop 24 a) (drop 24 b) ≡ Equal = ap₂ by_bytes none_a none_b in
+    let third : by_bytes (drop 16 a) (drop 16 b) ≡ nat_cmp (word_at 16 a) (word_at 16 b) =
+    step a b 16 long_a long_b (omega arith) in_a in_b
+    ∙ ap (ordering_then (nat_cmp (word_at 16 a) (word_at 16 b))) last ∙ then_equal (nat_cmp (word_at 16 a) (word_at 16 b)) in
+    step a b 0 long_a long_b (omega arith) in_a in_b
+    ∙ ap (ordering_then (nat_cmp (word_at 0 a) (word_at 0 b))) (step a b 8 long_a long_b (omega arith) in_a in_b
+    ∙ ap (ordering_then (nat_cmp (word_at 8 a) (word_at 8 b))) third)
+
+-- the order by three words, each of which is compared where those before it are equal
+pub by_first : (a b : List ℕ) (o : Ordering) → length a ≡ 24 → length b ≡ 24 → AreBytes a → AreBytes b → o ≡ nat_cmp (word_at 0 a) (word_at 0 b)
+    → true ≡ is_ne o → o ≡ by_bytes a b
+by_first a b o long_a long_b in_a in_b is apart =
+    let others : Ordering = ordering_then (nat_cmp (word_at 8 a) (word_at 8 b)) (nat_cmp (word_at 16 a) (word_at 16 b)) in
+    sym (by_words a b long_a long_b in_a in_b ∙ ap (λ p. ordering_then p others) (sym is) ∙ then_first o others apart)
+
+pub by_second : (a b : List ℕ) (o p : Ordering) → length a ≡ 24 → length b ≡ 24 → AreBytes a → AreBytes b → o ≡ nat_cmp (word_at 0 a) (word_at 0 b) → p ≡ nat_cmp (word_at 8 a) (word_at 8 b)
+    → false ≡ is_ne o → true ≡ is_ne p → p ≡ by_bytes a b
+by_second a b o p long_a long_b in_a in_b first second same apart =
+    let last : Ordering = nat_cmp (word_at 16 a) (word_at 16 b) in
+    sym (by_words a b long_a long_b in_a in_b ∙ ap₂ (λ q r. ordering_then q (ordering_then r last)) (sym first) (sym second)
+    ∙ then_second o (ordering_then p last) same ∙ then_first p last apart)
+
+pub by_third : (a b : List ℕ) (o p q : Ordering) → length a ≡ 24 → length b ≡ 24 → AreBytes a → AreBytes b → o ≡ nat_cmp (word_at 0 a) (word_at 0 b) → p ≡ nat_cmp (word_at 8 a) (word_at 8 b)
+    → q ≡ nat_cmp (word_at 16 a) (word_at 16 b) → false ≡ is_ne o → false ≡ is_ne p → q ≡ by_bytes a b
+by_third a b o p q long_a long_b in_a in_b first second third same also =
+    let last : Ordering = nat_cmp (word_at 16 a) (word_at 16 b) in
+    sym (by_words a b long_a long_b in_a in_b ∙ ap₂ (λ r s. ordering_then r (ordering_then s last)) (sym first) (sym second)
+    ∙ then_second o (ordering_then p last) same ∙ then_second p last also ∙ sym third)
