@@ -1,5 +1,5 @@
 -- Adding a cache to each shard in turn.
-use Rattle.std.proofs.Common.{◌≡◌, ◌<◌, ◌≤◌, ◌+◌, ◌++◌, ℕ, zero, suc, ℤ, true, false, List, [], ◌∷◌, length, length-append, take, drop, get_or, set, map, All, Result, Ok, Err, IfOk, IsOk, refl, ap, sym, ◌∙◌, subst, arith}
+use Rattle.std.proofs.Common.{◌≡◌, ◌<◌, ◌++◌, ℕ, zero, suc, ℤ, true, false, List, [], ◌∷◌, length, length-append, drop, get_or, set, All, Result, Ok, Err, IfOk, IsOk, refl, ap, sym, ◌∙◌, subst, arith}
 use Rattle.std.proofs.Math.ListN.{get_or-map}
 use Rattle.std.proofs.lemmas.List.{drop-set-lt, length-map}
 use Rattle.std.proofs.lemmas.List.Elements.{All-nil, All-cons, All-head, All-tail, All-get_or}

@@ -1,20 +1,15 @@
 -- Caches with the rows of two shards.
-use Rattle.std.proofs.Common.{◌≡◌, ◌≢◌, ◌<◌, ℕ, suc, ℤ, pos, Bool, true, false, cond, List, [], ◌∷◌, map, All, get_or, Option, None, Some, option_map, refl, sym, ap, ◌∙◌, subst, inl, inr, arith}
+use Rattle.std.proofs.Common.{◌≡◌, ℕ, ℤ, pos, true, false, List, [], ◌∷◌, map, All, Option, None, Some, refl, sym, ap, ◌∙◌, subst, inl, inr}
 use Rattle.std.proofs.lemmas.Bool.{cases_Bool, cond-true, cond-false}
-use Rattle.std.proofs.lemmas.List.Elements.{All-nil, All-cons, All-head, All-tail}
+use Rattle.std.proofs.lemmas.List.Elements.{All-cons, All-head, All-tail}
 use Rattle.std.specs.Ordering.{int_eq}
-use Rattle.std.specs.Option.{option_map_or}
-use Rattle.std.specs.List.{list_any}
 use Rattle.std.specs.FinMap as finite
 use Rattle.ig_value.specs.declared.value.Value.{Value}
 use Rattle.ig_value.specs.Canon.{Canon}
-use Rattle.ig_caches.specs.declared.call.Call.{Call}
 use Rattle.ig_caches.specs.declared.answer.Outcome.{Outcome}
-use Rattle.ig_caches.specs.declared.answer.Outcome.TheVariants.{Refused}
-use Rattle.ig_caches.specs.declared.answer.Why.TheVariants as why
 use Rattle.ig_caches.specs.Rows.{Rows}
 use Rattle.ig_caches.specs.PlainCaches.{Cache, PlainCaches, has_id, cache_of, caches_with_rows}
-use Rattle.ig_caches.specs.Effect.{Effect, Change, on_rows, on_all, at_key, effect}
+use Rattle.ig_caches.specs.Effect.{Effect, Change, on_rows, at_key}
 use Rattle.ig_caches.specs.Answered.{with_rows_at, ran}
 use Rattle.ig_caches.proofs.KeyLemmas.{ran_none, ran_some}
 use Rattle.ig_caches.proofs.CacheLemmas.{with_own}

@@ -1,19 +1,18 @@
 -- What a shard sees of calls: caches cut to it.
-use Rattle.std.proofs.Common.{◌≡◌, ◌≢◌, ◌<◌, ◌⊎◌, ◌++◌, ℕ, suc, ℤ, nat_eq, nat_le, Bool, true, false, cond, List, [], ◌∷◌, length, map, fold, Option, None, Some, option_map, refl, sym, ap, ap₂, ◌∙◌, subst, inl, inr, arith}
+use Rattle.std.proofs.Common.{◌≡◌, ◌⊎◌, ℕ, ℤ, nat_eq, Bool, true, false, cond, List, [], ◌∷◌, map, Option, None, Some, option_map, refl, sym, ap, ap₂, ◌∙◌, inl, inr}
 use Rattle.std.proofs.lemmas.Bool.{cases_Bool, cond-true, cond-false}
 use Rattle.std.specs.Cmp.Lexicographic.{nat_list_cmp_total}
-use Rattle.std.specs.Option.{option_map_or}
 use Rattle.std.specs.FinMap as finite
 use Rattle.ig_value.specs.declared.value.Value.{Value}
 use Rattle.ig_value.specs.Canon.{Canon}
 use Rattle.ig_types.specs.Registered.{Registered, empty_registry}
 use Rattle.ig_caches.specs.declared.call.Pair.{Pair}
 use Rattle.ig_caches.specs.declared.answer.Outcome.{Outcome}
-use Rattle.ig_caches.specs.Rows.{Rows, with_row, without_row, with_rows, without_rows, value_of}
-use Rattle.ig_caches.specs.PlainCaches.{Cache, PlainCaches, has_id, id_of, fresh_cache, cache_of, caches_with_rows, caches_without}
-use Rattle.ig_caches.specs.Effect.{Effect, Change, on_rows, on_all, keep, store, remove, changed, at_key}
+use Rattle.ig_caches.specs.Rows.{Rows, with_row, without_row, with_rows, without_rows}
+use Rattle.ig_caches.specs.PlainCaches.{Cache, PlainCaches, has_id, cache_of, caches_with_rows}
+use Rattle.ig_caches.specs.Effect.{Effect, Change, on_rows, keep, store, remove, changed}
 use Rattle.ig_caches.specs.Answered.{ran}
-use Rattle.ig_caches.proofs.RowEntryLemmas.{by_bytes, exact, ties, tied_same, same_rows}
+use Rattle.ig_caches.proofs.RowEntryLemmas.{exact, ties, tied_same, same_rows}
 use Rattle.ig_caches.proofs.KeyLemmas.{ran_none, ran_some}
 use Rattle.ig_caches.proofs.CacheLemmas.{with_own}
 use Rattle.ig_shards.specs.ShardOf.{shard_of}

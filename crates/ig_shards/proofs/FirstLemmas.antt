@@ -1,5 +1,5 @@
 -- Calls that the first shard answers for all, and calls that change each shard.
-use Rattle.std.proofs.Common.{◌≡◌, ◌<◌, ◌+◌, ◌++◌, ℕ, suc, ℤ, List, [], ◌∷◌, length, append-nil, take, drop, get_or, set, All, Option, None, Result, Ok, Err, IsOk, refl, sym, ap, ◌∙◌, subst, subst₂, arith}
+use Rattle.std.proofs.Common.{◌≡◌, ◌<◌, ◌+◌, ◌++◌, ℕ, ℤ, List, [], ◌∷◌, length, append-nil, take, drop, get_or, set, All, None, Result, Ok, IsOk, sym, ap, ◌∙◌, subst, subst₂, arith}
 use Rattle.std.proofs.Math.ListN.{get_or-map, drop_of_length-le}
 use Rattle.std.proofs.lemmas.List.{set-get_or, map-set, take_all, length-map, get_or_default}
 use borrow.Rule.Slice.PartMut.{put_mid}
@@ -9,9 +9,9 @@ use Rattle.ig_caches.specs.declared.call.Call.{Call}
 use Rattle.ig_caches.specs.declared.call.Call.TheVariants.{Create, GetOrCreate, Destroy}
 use Rattle.ig_caches.specs.declared.answer.Answer.{Answer}
 use Rattle.ig_caches.specs.declared.answer.Outcome.TheVariants.{Done}
-use Rattle.ig_caches.specs.PlainCaches.{Cache, PlainCaches, id_of, cache_of}
+use Rattle.ig_caches.specs.PlainCaches.{PlainCaches, id_of, cache_of}
 use Rattle.ig_caches.specs.CachesView.{plain_caches}
-use Rattle.ig_caches.specs.Effect.{created, after_destroy}
+use Rattle.ig_caches.specs.Effect.{created}
 use Rattle.ig_caches.specs.RunsOn.{RunsOn}
 use Rattle.ig_shards.specs.declared.shard_rows.ShardRows.{ShardRows}
 use Rattle.ig_shards.specs.Parts.{Part, together, AreAlike, AllAlike, AreAll}
@@ -19,7 +19,7 @@ use Rattle.ig_shards.specs.PartView.{part_of, parts_of}
 use Rattle.ig_shards.specs.RowsOfParts.{created_in_parts, destroyed_in, destroyed_in_parts}
 use Rattle.ig_shards.proofs.BesideLemmas.{missing_in_other}
 use Rattle.ig_shards.proofs.WholeLemmas.{not_none}
-use Rattle.ig_shards.proofs.CreationLemmas.{RunsAsFirst, create_done, get_or_create_done, all_created, all_destroyed, destroy_in_all, destroyed_ran}
+use Rattle.ig_shards.proofs.CreationLemmas.{RunsAsFirst, create_done, get_or_create_done, all_destroyed, destroy_in_all, destroyed_ran}
 
 pub split_first : (first : Part) (parts : List Part) → 0 < length parts → first ≡ get_or parts 0 first → (others : List Part) × (parts ≡ first ∷ others)
 split_first first [] some is = absurd (omega (arith, some))

@@ -1,12 +1,11 @@
 -- Shards with names, and without rows or types.
-use Rattle.std.proofs.Common.{◌≡◌, ◌≢◌, ◌<◌, ◌≤◌, ◌+◌, ◌++◌, ℕ, zero, suc, List, [], ◌∷◌, length, map, All, refl, sym, ap, ap₂, ◌∙◌, arith}
+use Rattle.std.proofs.Common.{◌≡◌, ◌≤◌, ◌+◌, ◌++◌, ℕ, zero, suc, List, [], ◌∷◌, length, map, All, refl, ap, ap₂, ◌∙◌, arith}
 use Rattle.std.proofs.lemmas.List.Elements.{All-nil, All-cons}
 use Rattle.std.specs.FinMap as finite
-use Rattle.ig_types.specs.Registered.{empty_registry}
 use Rattle.ig_caches.specs.Rows.{Rows}
-use Rattle.ig_caches.specs.PlainCaches.{Cache, PlainCaches, fresh_cache, fresh_caches}
-use Rattle.ig_shards.specs.Spread.{either, IsPlaced}
-use Rattle.ig_shards.specs.Parts.{Part, beside, both, together, AreAlike, IsPart, AreNumbered, AllAlike, AreAll}
+use Rattle.ig_caches.specs.PlainCaches.{Cache, fresh_cache, fresh_caches}
+use Rattle.ig_shards.specs.Spread.{IsPlaced}
+use Rattle.ig_shards.specs.Parts.{Part, beside, both, together, AreAlike, AreNumbered, AllAlike, AreAll}
 use Rattle.ig_shards.proofs.SpreadLemmas.{either_none, placed_none}
 use Rattle.ig_shards.proofs.PartLemmas.{both_none}
 

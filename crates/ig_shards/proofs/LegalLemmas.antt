@@ -1,9 +1,9 @@
 -- Of a legal history each shard sees a legal one.
-use Rattle.std.proofs.Common.{◌≡◌, ◌≢◌, ◌<◌, ◌⊎◌, ◌++◌, ℕ, zero, suc, ℤ, pos, nat_eq, nat_le, Bool, true, false, cond, List, [], ◌∷◌, length, map, filter, Option, None, Some, option_map, refl, sym, ap, ap₂, ◌∙◌, subst, inl, inr, arith}
-use Rattle.std.proofs.lemmas.Bool.{cases_Bool, cond-true, cond-false}
+use Rattle.std.proofs.Common.{◌≡◌, ◌++◌, ℕ, suc, ℤ, pos, nat_eq, nat_le, Bool, true, false, cond, List, [], ◌∷◌, length, map, Option, None, Some, option_map, refl, sym, ap, ap₂, ◌∙◌, subst, inl, inr, arith}
+use Rattle.std.proofs.lemmas.Bool.{cond-false}
 use Rattle.std.proofs.lemmas.Bool.Decides.{nat_tests}
 use Rattle.std.specs.Option.{option_map_or}
-use Rattle.std.specs.List.{list_all, list_any}
+use Rattle.std.specs.List.{list_all}
 use Rattle.std.specs.FinMap as finite
 use Rattle.ig_base.specs.declared.entry.Entry.{Entry}
 use Rattle.ig_value.specs.declared.value.Value.{Value}
@@ -14,22 +14,22 @@ use Rattle.ig_caches.specs.declared.call.Call.{Call}
 use Rattle.ig_caches.specs.declared.call.Call.TheVariants as call
 use Rattle.ig_caches.specs.declared.call.Pair.{Pair}
 use Rattle.ig_caches.specs.declared.answer.Outcome.{Outcome}
-use Rattle.ig_caches.specs.declared.answer.Outcome.TheVariants.{Done, Found, Yes, Pairs, Count, Refused}
+use Rattle.ig_caches.specs.declared.answer.Outcome.TheVariants.{Done, Yes, Pairs, Count, Refused}
 use Rattle.ig_caches.specs.declared.answer.Why.TheVariants as why
 use Rattle.ig_caches.specs.declared.answer.Answer.{Answer}
 use Rattle.ig_caches.specs.Rows.{Rows, value_of, has_row, with_rows, without_rows, rows_of, all_rows}
 use Rattle.ig_caches.specs.PlainCaches.{Cache, PlainCaches, has_id, id_of, fresh_cache, cache_of, caches_without}
-use Rattle.ig_caches.specs.Effect.{Effect, Change, on_rows, on_all, effect, changed, at_key, created, changed_to, next_count, max_caches, asks_for_all, count_of, affinity_of, type_name, after_put_type, after_create, after_get_or_create, after_destroy}
+use Rattle.ig_caches.specs.Effect.{Effect, Change, on_rows, effect, changed, at_key, created, changed_to, next_count, max_caches, asks_for_all, count_of, after_create, after_get_or_create, after_destroy}
 use Rattle.ig_caches.specs.Answered.{with_rows_at, ran, answered, after}
 use Rattle.ig_caches.specs.Legal.{Legal}
 use Rattle.ig_shards.specs.declared.touch.Touched.{Touched}
 use Rattle.ig_shards.specs.declared.touch.Touched.TheVariants as touched
-use Rattle.ig_shards.specs.ShardOf.{shard_of, shard_of_key}
+use Rattle.ig_shards.specs.ShardOf.{shard_of_key}
 use Rattle.ig_shards.specs.Touches.{touches}
 use Rattle.ig_shards.specs.LegalAt.{rows_in, types_in, cut_cache, cut_to, is_touched, entries_at, IsAnswerAt, LegalAt}
 use Rattle.ig_shards.specs.Laws.{LegalAtEachShard}
 use Rattle.ig_shards.proofs.CutLemmas.{Agree, Respects, caches_cut_twice, agree_changed, agree_elsewhere, agree_rows, agree_without_rows, cut_agrees, same_cut, found_cut, rows_left, rows_answered, rows_elsewhere}
-use Rattle.ig_shards.proofs.PartLemmas.{IsOnTypes, IsOnKeyIn, IsApart, apart}
+use Rattle.ig_shards.proofs.PartLemmas.{IsOnTypes, IsApart, apart}
 
 module _ (shards shard : ℕ) where
   abbrev see : PlainCaches → PlainCaches

@@ -1,5 +1,5 @@
 -- Shards together: a call that touches one of them needs this one alone.
-use Rattle.std.proofs.Common.{◌≡◌, ◌≢◌, ◌<◌, ◌+◌, ◌⊎◌, ◌&&◌, ◌||◌, ℕ, zero, suc, ℤ, pos, Bool, true, false, cond, List, [], ◌∷◌, ◌++◌, length, take, drop, get_or, set, map, All, Option, None, Some, is_some, refl, sym, ap, ap₂, ◌∙◌, subst, inl, inr, arith}
+use Rattle.std.proofs.Common.{◌≡◌, ◌<◌, ◌+◌, ◌⊎◌, ◌&&◌, ◌||◌, ℕ, zero, suc, ℤ, Bool, cond, List, [], ◌∷◌, ◌++◌, length, take, drop, get_or, set, map, All, Option, None, Some, is_some, refl, sym, ap, ap₂, ◌∙◌, subst, inl, inr, arith}
 use Rattle.std.proofs.lemmas.List.Elements.{All-nil, All-cons, All-head, All-tail}
 use Rattle.std.specs.Option.{is_none, option_map_or}
 use Rattle.std.specs.List.{list_all, list_any}
@@ -15,11 +15,10 @@ use Rattle.ig_caches.specs.declared.call.Call.TheVariants.{Get, GetAndRemove, Co
 use Rattle.ig_caches.specs.declared.answer.Why.TheVariants as why
 use Rattle.ig_caches.specs.declared.answer.Outcome.{Outcome}
 use Rattle.ig_caches.specs.declared.answer.Outcome.TheVariants.{Done, Found, Yes, Meta, Keys, Refused}
-use Rattle.ig_caches.specs.declared.answer.Answer.{Answer}
 use Rattle.ig_caches.specs.Rows.{Rows}
-use Rattle.ig_caches.specs.PlainCaches.{Cache, PlainCaches, has_id, cache_of, caches_with_rows, fresh_caches}
+use Rattle.ig_caches.specs.PlainCaches.{Cache, PlainCaches, has_id, cache_of, fresh_caches}
 use Rattle.ig_caches.specs.Effect.{Effect, Change, on_rows, on_all, keep, store, remove, at_key, effect, or_null, is_wanted, keep_unless, type_name, after_put_type, affinity_of}
-use Rattle.ig_caches.specs.Answered.{ran, answered, after}
+use Rattle.ig_caches.specs.Answered.{ran}
 use Rattle.ig_caches.specs.Laws.{IsOnKey}
 use Rattle.ig_caches.proofs.KeyLemmas.{ran_none, ran_some}
 use Rattle.ig_shards.specs.declared.touch.Touched.{Touched}
@@ -29,7 +28,7 @@ use Rattle.ig_shards.specs.Touches.{touches}
 use Rattle.ig_shards.specs.Spread.{IsPlaced}
 use Rattle.ig_shards.specs.LegalAt.{cut_cache, cut_to}
 use Rattle.ig_shards.proofs.CutLemmas.{caches_cut_twice}
-use Rattle.ig_shards.specs.Parts.{Part, beside, both, together, heads, AreAlike, IsPart, AreNumbered, AllAlike, AreAll}
+use Rattle.ig_shards.specs.Parts.{Part, beside, both, together, heads, AreAlike, IsPart, AreNumbered, AllAlike}
 use Rattle.ig_shards.proofs.SpreadLemmas.{not_less, less_next, not_first, none_elsewhere, placed_changed}
 use Rattle.ig_shards.proofs.BesideLemmas.{head, beside_none, beside_heads, HaveNone, none_in_both, all_found, all_with_rows, heads_with_rows, key_first, key_second}
 

@@ -1,5 +1,5 @@
 -- What a call on its shard alone is of all shards.
-use Rattle.std.proofs.Common.{◌≡◌, ◌<◌, ◌≤◌, ◌+◌, ◌++◌, ℕ, zero, suc, List, [], ◌∷◌, length, take, drop, get_or, set, Result, Ok, Err, IfOk, OnOk, IfErr, OnErr, refl, sym, ap, ◌∙◌, subst, arith}
+use Rattle.std.proofs.Common.{◌≡◌, ◌<◌, ◌≤◌, ◌+◌, ◌++◌, ℕ, suc, List, [], ◌∷◌, length, take, drop, get_or, set, Result, Ok, Err, IfOk, OnOk, IfErr, OnErr, refl, sym, ap, ◌∙◌, subst, arith}
 use Rattle.std.proofs.Math.ListN.{get_or-map}
 use Rattle.std.proofs.lemmas.List.{set-get_or, length-take, length-map, map-set}
 use Rattle.std.proofs.lemmas.List.Elements.{All-cons, All-head, All-tail}
@@ -14,11 +14,11 @@ use Rattle.ig_caches.specs.RunsOn.{RunsOn}
 use Rattle.ig_shards.specs.declared.shard_rows.ShardRows.{ShardRows}
 use Rattle.ig_shards.specs.declared.touch.Touched.TheVariants as touched
 use Rattle.ig_shards.specs.Touches.{touches}
-use Rattle.ig_shards.specs.Parts.{Part, both, together, heads, AreAlike, IsPart, AreNumbered, AllAlike, AreAll}
+use Rattle.ig_shards.specs.Parts.{Part, together, AreAlike, IsPart, AreNumbered, AllAlike, AreAll}
 use Rattle.ig_shards.specs.PartView.{part_of, parts_of}
 use Rattle.ig_shards.specs.Laws.{NeedsItsShardAlone}
 use Rattle.ig_shards.proofs.WholeLemmas.{few_parts, not_none}
-use Rattle.ig_shards.proofs.PartLemmas.{IsApart, apart, alone, apart_keeps, number_at, part_at, alike_at, both_none, split_parts, split_set, numbered_set, alike_set}
+use Rattle.ig_shards.proofs.PartLemmas.{IsApart, apart, alone, apart_keeps, number_at, part_at, alike_at, split_parts, split_set, numbered_set, alike_set}
 
 -- an answer is the outcome with the count after it
 abbrev answer_of : PlainCaches → Outcome → Answer

@@ -1,5 +1,5 @@
 -- A call on several rows of a cache: its rows are taken out of the shards, the call runs on them, and they are put back.
-use Rattle.std.proofs.Common.{◌≡◌, ◌<◌, ◌≤◌, ◌+◌, ◌++◌, ℕ, ℤ, true, List, length, take, drop, get_or, All, Some, Result, Ok, Err, refl, sym, ap, ◌∙◌, subst, subst₂, arith}
+use Rattle.std.proofs.Common.{◌≡◌, ◌≤◌, ◌+◌, ◌++◌, ℕ, ℤ, true, List, length, take, drop, get_or, All, Some, Result, Ok, Err, sym, ap, ◌∙◌, subst, subst₂, arith}
 use Rattle.std.proofs.lemmas.List.{length-map}
 use Rattle.std.specs.FinMap as finite
 use Rattle.std.specs.List.{list_any}
@@ -8,7 +8,6 @@ use Rattle.ig_caches.specs.declared.call.Call.{Call}
 use Rattle.ig_caches.specs.declared.answer.Answer.{Answer}
 use Rattle.ig_caches.specs.declared.answer.Outcome.{Outcome}
 use Rattle.ig_caches.specs.Rows.{Rows}
-use Rattle.ig_caches.specs.RowsAt.{with_rows_of}
 use Rattle.ig_caches.specs.CachesView.{plain_caches}
 use Rattle.ig_caches.specs.PlainCaches.{Cache, PlainCaches, has_id, cache_of}
 use Rattle.ig_caches.specs.Effect.{effect}
@@ -21,7 +20,7 @@ use Rattle.ig_shards.specs.PartView.{part_of, parts_of}
 use Rattle.ig_shards.specs.RowsOfParts.{rows_in_parts, rows_or, with_rows_in_parts}
 use Rattle.ig_shards.proofs.SpreadLemmas.{spread_length, all_written}
 use Rattle.ig_shards.proofs.TogetherLemmas.{rows_together, spread_parts, all_taken}
-use Rattle.ig_shards.proofs.WholeLemmas.{present_in, number_of_parts, few_parts, not_none, all_with_rows_in, put_back, ran_all, failed_all}
+use Rattle.ig_shards.proofs.WholeLemmas.{present_in, number_of_parts, few_parts, all_with_rows_in, put_back, ran_all, failed_all}
 use Rattle.ig_shards.proofs.FirstLemmas.{first_part, first_minor, first_and_others, others}
 
 module _ (shards : ℕ) (id : ℤ) (old mid : List ShardRows) (none lent : List Rows) (all : AreAll shards (parts_of old)) (many : length none ≡ length old)

@@ -1,27 +1,26 @@
 -- Shards together: calls that need all of them.
-use Rattle.std.proofs.Common.{◌≡◌, ◌≢◌, ◌<◌, ◌+◌, ◌++◌, ℕ, zero, suc, ℤ, pos, Bool, true, false, nat_le, cond, List, [], ◌∷◌, length, take, get_or, set, map, All, Option, None, Some, refl, sym, ap, ap₂, ◌∙◌, subst, inl, inr, arith}
+use Rattle.std.proofs.Common.{◌≡◌, ◌<◌, ◌++◌, ℕ, zero, suc, ℤ, Bool, true, false, nat_le, cond, List, [], ◌∷◌, length, take, get_or, set, map, All, Option, None, Some, refl, sym, ap, ap₂, ◌∙◌, subst, inl, inr, arith}
 use Rattle.std.proofs.lemmas.Bool.{cases_Bool, cond-true, cond-false}
 use Rattle.std.proofs.lemmas.List.{map-append, length-append}
-use Rattle.std.proofs.lemmas.List.Elements.{All-nil, All-cons, All-head, All-tail}
+use Rattle.std.proofs.lemmas.List.Elements.{All-cons, All-head, All-tail}
 use Rattle.std.proofs.Math.Seq.{take-nil}
 use Rattle.std.specs.Ordering.{int_eq}
 use Rattle.std.specs.Option.{option_map_or}
 use Rattle.std.specs.FinMap as finite
-use Rattle.ig_types.specs.Join.{same_name}
 use Rattle.ig_caches.specs.declared.answer.Outcome.{Outcome}
 use Rattle.ig_caches.specs.declared.answer.Outcome.TheVariants.{Done, Refused}
 use Rattle.ig_caches.specs.declared.answer.Why.TheVariants as why
 use Rattle.ig_caches.specs.Rows.{Rows}
 use Rattle.ig_caches.specs.RowsAt.{rows_at, with_rows_of}
-use Rattle.ig_caches.specs.PlainCaches.{Cache, PlainCaches, has_id, id_of, fresh_cache, fresh_caches, cache_of, caches_with_rows, caches_without}
+use Rattle.ig_caches.specs.PlainCaches.{Cache, PlainCaches, has_id, fresh_cache, cache_of, caches_without}
 use Rattle.ig_caches.specs.Effect.{created, changed_to, next_count, max_caches, after_destroy}
 use Rattle.ig_caches.proofs.KeyLemmas.{with_twice}
-use Rattle.ig_caches.proofs.CacheLemmas.{with_own, destroy_none, destroy_found}
+use Rattle.ig_caches.proofs.CacheLemmas.{destroy_none, destroy_found}
 use Rattle.ig_shards.specs.Spread.{either, union, IsPlaced, AreSpreadFrom}
-use Rattle.ig_shards.specs.Parts.{Part, beside, both, together, heads, AreAlike, IsPart, AreNumbered, AllAlike, AreAll}
+use Rattle.ig_shards.specs.Parts.{Part, beside, both, together, heads, AreAlike, IsPart, AreNumbered, AllAlike}
 use Rattle.ig_shards.specs.RowsOfParts.{rows_in_parts, rows_or, with_rows_in_parts}
 use Rattle.ig_shards.proofs.SpreadLemmas.{either_none, placed_none}
-use Rattle.ig_shards.proofs.BesideLemmas.{head, same_first, same_head, same_rest, beside_none, beside_heads, IsInBoth, found_in_both, missing_in_both, missing_in_other, rows_in_both, all_found, all_with_rows, heads_with_rows}
+use Rattle.ig_shards.proofs.BesideLemmas.{head, same_first, same_head, same_rest, beside_none, IsInBoth, found_in_both, missing_in_both, missing_in_other, rows_in_both, all_found, all_with_rows, heads_with_rows}
 use Rattle.ig_shards.proofs.PartLemmas.{both_none, heads_together}
 
 some_cache : Cache → Option Cache → Cache

@@ -1,12 +1,10 @@
 -- Calls on all shards.
-use Rattle.std.proofs.Common.{◌≡◌, ◌<◌, ◌≤◌, ◌+◌, ◌++◌, ◌||◌, ℕ, suc, ℤ, Bool, true, false, List, [], ◌∷◌, length, take, drop, get_or, set, map, All, Option, None, Some, Result, Ok, Err, refl, sym, ap, ap₂, ◌∙◌, subst, inl, inr, arith}
+use Rattle.std.proofs.Common.{◌≡◌, ◌<◌, ◌≤◌, ◌+◌, ◌++◌, ◌||◌, ℕ, suc, ℤ, Bool, true, false, List, [], ◌∷◌, length, take, drop, get_or, set, map, None, Some, Ok, Err, refl, sym, ap, ap₂, ◌∙◌, inl, inr, arith}
 use Rattle.std.proofs.lemmas.Bool.{cases_Bool, cond-true, cond-false}
-use Rattle.std.proofs.lemmas.List.Elements.{All-nil, All-cons, All-head, All-tail}
 use Rattle.std.proofs.Math.ListN.{get_or-map}
 use Rattle.std.proofs.Math.Numerals.{suc-eq-add-one}
 use Rattle.std.proofs.lemmas.List.{length-map, map-set}
 use Rattle.std.specs.List.{list_any}
-use Rattle.std.specs.FinMap as finite
 use Rattle.ig_base.specs.declared.memory.NoRoom.{NoRoom}
 use Rattle.ig_caches.specs.declared.call.Call.{Call}
 use Rattle.ig_caches.specs.declared.answer.Answer.{Answer}
@@ -17,18 +15,17 @@ use Rattle.ig_caches.specs.Rows.{Rows}
 use Rattle.ig_caches.specs.RowsAt.{rows_at, with_rows_of}
 use Rattle.ig_caches.specs.CachesView.{plain_caches}
 use Rattle.ig_caches.specs.PlainCaches.{Cache, PlainCaches, has_id, cache_of}
-use Rattle.ig_caches.specs.Effect.{Effect, effect}
-use Rattle.ig_caches.specs.Answered.{ran}
+use Rattle.ig_caches.specs.Effect.{effect}
 use Rattle.ig_caches.specs.RunsOn.{RunsOn}
 use Rattle.ig_caches.specs.RunsOnRows.{IsOnRowsOf, RunsOnRows}
 use Rattle.ig_caches.proofs.CacheLemmas.{runs, with_own, on_rows_of, on_no_rows}
 use Rattle.ig_shards.specs.Spread.{union, AreSpreadFrom}
-use Rattle.ig_shards.specs.Parts.{Part, together, AreAlike, AreNumbered, AllAlike, AreAll}
+use Rattle.ig_shards.specs.Parts.{Part, together, AreNumbered, AreAll}
 use Rattle.ig_shards.specs.declared.shard_rows.ShardRows.{ShardRows}
 use Rattle.ig_shards.specs.PartView.{part_of, parts_of}
 use Rattle.ig_shards.specs.RowsOfParts.{rows_in_parts, rows_or, with_rows_in_parts}
 use Rattle.ig_shards.proofs.EachLemmas.{each_next, each_step}
-use Rattle.ig_shards.proofs.TogetherLemmas.{found_together, missing_together, rows_together, numbered_rows, alike_rows, rows_twice, swapped, next_part, taken_rows, next_rows, all_taken}
+use Rattle.ig_shards.proofs.TogetherLemmas.{found_together, missing_together, rows_together, numbered_rows, alike_rows, rows_twice, swapped, next_part, taken_rows, next_rows}
 
 -- ---- whether a cache stands
 pub absent_from : (caches : List Cache) (id : ℤ) → list_any (has_id id) caches ≡ false → cache_of caches id ≡ None

@@ -1,9 +1,9 @@
 -- Laws of shards, over the definitions alone.
-use Rattle.std.specs.Prelude.{◌≡◌, ◌<◌, ℕ, List, [], ◌∷◌, ◌++◌, length}
+use Rattle.std.specs.Prelude.{◌≡◌, ◌<◌, ℕ, List, ◌∷◌, ◌++◌}
 use Rattle.ig_base.specs.declared.entry.Entry.{Entry}
 use Rattle.ig_caches.specs.declared.call.Call.{Call}
 use Rattle.ig_caches.specs.declared.answer.Answer.{Answer}
-use Rattle.ig_caches.specs.PlainCaches.{PlainCaches, fresh_caches}
+use Rattle.ig_caches.specs.PlainCaches.{PlainCaches}
 use Rattle.ig_caches.specs.Answered.{answered, after}
 use Rattle.ig_caches.specs.Legal.{Legal}
 use Rattle.ig_shards.specs.declared.touch.Touched.TheVariants.{One}

@@ -48,6 +48,6 @@ returns-in-None c =
     let one : (shards : ℕ) → touches c.args.call shards ≡ touched.All → ⊥ =
     λ shards. needs_all c.args.call shards c.in-None.ensures.none c.in_default.not-Names c.in_default.not-Create c.in_default.not-GetOrCreate c.in_default.not-Destroy in
     let ran : (shards : ℕ) → AreTouched shards c.args.call (parts_of old)
-        → RunsOn c.args.call (together (parts_of old)) c.run-in-None.result (together (parts_of left)) × AreTouched shards c.args.call (parts_of left) =
+    → RunsOn c.args.call (together (parts_of old)) c.run-in-None.result (together (parts_of left)) × AreTouched shards c.args.call (parts_of left) =
     λ shards those. run_one shards first c.run-in-None.new.self c.args.call c.run-in-None.result c.run-in-None.ensures.number c.run-in-None.ensures.shards c.run-in-None.ensures.runs old at (one shards) those in
     record { runs = (ran c.requires.touched.0 c.requires.touched.1).0; touched = λ shards those. (ran shards those).1 }

@@ -1,9 +1,9 @@
-use Rattle.std.proofs.Common.{◌≡◌, ◌<◌, ◌≤◌, ◌+◌, ◌++◌, ℕ, ℤ, List, [], ◌∷◌, None, length, length-append, append-nil, get_or, drop, All, w32, to_z, of_z, ap, sym, subst, ◌∙◌, arith}
+use Rattle.std.proofs.Common.{◌≡◌, ◌<◌, ◌≤◌, ◌+◌, ◌++◌, ℕ, ℤ, List, [], ◌∷◌, None, length, length-append, append-nil, get_or, w32, ap, sym, subst, ◌∙◌, arith}
 use Rattle.std.proofs.lemmas.Int.{to_z-of_z}
 use Rattle.std.proofs.Math.Numerals.{suc-eq-add-one}
 use Rattle.std.proofs.lemmas.List.{append_assoc, length-map, nil_from_length}
 use Rattle.ig_caches.specs.CachesView.{HasRoom, plain_caches}
-use Rattle.ig_caches.specs.PlainCaches.{PlainCaches, id_of, cache_of}
+use Rattle.ig_caches.specs.PlainCaches.{id_of, cache_of}
 use Rattle.ig_caches.specs.Effect.{created}
 use Rattle.ig_shards.specs.declared.shard_rows.ShardRows.{ShardRows}
 use Rattle.ig_shards.specs.Parts.{Part}

@@ -1,4 +1,4 @@
-use Rattle.std.proofs.Common.{◌≡◌, true, false, ℕ, ℤ, List, get_or, set, None, Some, w32, to_z, of_z, refl, ap, sym, subst, ◌∙◌, rules}
+use Rattle.std.proofs.Common.{◌≡◌, true, ℤ, List, get_or, set, None, Some, w32, to_z, of_z, refl, ap, sym, subst, ◌∙◌, rules}
 use Rattle.std.specs.Int.{cast_signed}
 use Rattle.std.specs.List.{list_any}
 use Rattle.ig_base.specs.Hashes.{Java, units}
@@ -7,11 +7,10 @@ use Rattle.ig_caches.specs.declared.answer.Outcome.TheVariants.{Done}
 use Rattle.ig_caches.specs.Effect.{created}
 use Rattle.ig_caches.specs.RunsOn.{RunsOn}
 use Rattle.ig_caches.specs.CachesView.{plain_caches}
-use Rattle.ig_caches.specs.PlainCaches.{Cache, PlainCaches, has_id, id_of, cache_of}
+use Rattle.ig_caches.specs.PlainCaches.{Cache, has_id, id_of, cache_of}
 use Rattle.ig_shards.specs.declared.shard_rows.ShardRows.{ShardRows}
 use Rattle.ig_shards.specs.Parts.{Part, together, AreAll}
 use Rattle.ig_shards.specs.PartView.{part_of, parts_of}
-use Rattle.ig_shards.specs.RowsOfParts.{created_in_parts}
 use Rattle.ig_shards.proofs.WholeLemmas.{absent_from, present_in}
 use Rattle.ig_shards.proofs.CreationLemmas.{create_stands, create_spent, all_created}
 use Rattle.ig_shards.proofs.FirstLemmas.{absent_in_all, first_again, run_first, created_all}

@@ -1,4 +1,4 @@
-use Rattle.std.proofs.Common.{◌≡◌, ◌<◌, ℕ, ℤ, List, None, length, get_or, All, w32, to_z, of_z, ap, sym, subst, ◌∙◌, arith}
+use Rattle.std.proofs.Common.{◌≡◌, ℤ, List, None, get_or, All, w32, to_z, of_z, ap, sym, subst, ◌∙◌, arith}
 use Rattle.std.proofs.lemmas.Int.{to_z-of_z}
 use Rattle.ig_caches.specs.PlainCaches.{cache_of}
 use Rattle.ig_shards.specs.declared.shard_rows.ShardRows.{ShardRows}

@@ -8,7 +8,7 @@ use Rattle.ig_shards.specs.declared.shard_rows.ShardRows.{ShardRows}
 use Rattle.ig_shards.specs.Parts.{Part, together, AreAll}
 use Rattle.ig_shards.specs.PartView.{parts_of}
 use Rattle.ig_shards.specs.RowsOfParts.{destroyed_in_parts}
-use Rattle.ig_shards.proofs.FirstLemmas.{some_shards, after_first, many_after_first, first_written, destroyed_all, all_left}
+use Rattle.ig_shards.proofs.FirstLemmas.{some_shards, after_first, first_written, destroyed_all, all_left}
 use Rattle.ig_shards.proofs.whole.destroy.Goals as goal
 
 pub returns : goal.returns

@@ -1,10 +1,10 @@
-use Rattle.std.proofs.Common.{◌≡◌, ◌<◌, ◌+◌, ℕ, List, [], ◌∷◌, length, take, get_or, set, All, sym, subst, ◌∙◌, arith}
+use Rattle.std.proofs.Common.{◌<◌, ℕ, List, length, take, get_or, All, sym, subst, ◌∙◌, arith}
 use Rattle.std.proofs.Math.Seq.{map-set_same}
 use Rattle.std.proofs.lemmas.List.{take_more_set}
 use Rattle.std.proofs.lemmas.List.Elements.{All-push}
 use Rattle.ig_caches.specs.CachesView.{HasRoom}
 use Rattle.ig_shards.specs.declared.shard_rows.ShardRows.{ShardRows}
-use Rattle.ig_shards.specs.PartView.{part_of, parts_of}
+use Rattle.ig_shards.specs.PartView.{part_of}
 use Rattle.ig_shards.proofs.whole.make_room.Goals as goal
 
 pub loop-part-preserved : goal.loop-part-preserved
