@@ -1,6 +1,6 @@
 //! Which shards a call touches.
 
-ghost use Rattle.std.specs.Prelude.{◌≡◌, ◌<◌, IfOk};
+ghost use Rattle.std.specs.Prelude.{◌≡◌, ◌<◌, IfOk, IsOk};
 ghost use Rattle.ig_caches.specs.IsRunnable.{IsRunnable};
 ghost use Rattle.ig_shards.specs.Touches.{touches, IsWithin};
 
@@ -15,6 +15,7 @@ pub fn touched(call: &Call, shards: u32) -> Result<Touched, NoMemory>
     requires some { 0 < shards }
     ensures touched { IfOk result (λ touched. touched ≡ touches call.now shards) }
     ensures within { IfOk result (λ touched. IsWithin touched shards) }
+    ensures never_fails { IsOk result }
 {
     Ok(touched_by(call, shards))
 }

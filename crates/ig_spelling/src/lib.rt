@@ -6,6 +6,3 @@ mod front;
 mod spelling;
 
 pub use spelling::{SHORT, Spelling};
-
-#[cfg(test)]
-mod tests;

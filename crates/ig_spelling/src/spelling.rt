@@ -57,17 +57,9 @@ impl Spelling {
         ensures items { IfOk result (λ s. s.items ≡ bytes.now) }
         ensures short { length bytes.now ≤ short → IsOk result }
     {
-        let front = front::front_of(bytes);
-        if bytes.len() <= PLACES {
-            return Ok(Spelling {
-                front,
-                bytes: Vec::new(alloc),
-            });
-        }
-        Ok(Spelling {
-            front,
-            bytes: Vec::from_slice(alloc, bytes)?,
-        })
+        let mut spelling = Spelling::empty(alloc);
+        spelling.set(bytes)?;
+        Ok(spelling)
     }
 
     /// Becomes a copy of these bytes. Takes no memory if they are at most [`SHORT`], or if it had as many
@@ -79,12 +71,20 @@ impl Spelling {
         ensures capacity { self.old.capacity ≤ self.new.capacity }
     {
         self.bytes.clear();
-        if bytes.len() > PLACES && self.bytes.extend_from_slice(bytes).is_err() {
-            self.front = front::front_of(&[]);
-            return Err(NoMemory);
+        if bytes.len() <= PLACES {
+            self.front = front::front_of(bytes);
+            return Ok(());
         }
-        self.front = front::front_of(bytes);
-        Ok(())
+        match self.bytes.extend_from_slice(bytes) {
+            Ok(()) => {
+                self.front = front::front_of(bytes);
+                Ok(())
+            }
+            Err(_) => {
+                self.front = front::front_of(&[]);
+                Err(NoMemory)
+            }
+        }
     }
 
     /// The bytes.

@@ -1,5 +1,5 @@
-use crate::{SHORT, Spelling};
 use ig_base::NoMemory;
+use ig_spelling::{SHORT, Spelling};
 use std::alloc::Global;
 use std::cmp::Ordering;
 
