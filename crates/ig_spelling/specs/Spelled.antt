@@ -13,6 +13,6 @@ coded_spelled =
     code_by (List ℕ × ℕ) (coded× (coded_list coded_ℕ) coded_ℕ) (λ s. (s.items, s.capacity))
     (λ p. record { items = p.0; capacity = p.1 }) (λ _. refl)
 
--- so many bytes fit without more memory
+-- as many bytes fit without more memory
 abbrev pub HasRoom : Spelled → ℕ → Type 0
 HasRoom s n = n ≤ max short s.capacity
