@@ -281,13 +281,17 @@ fn frame_of_bytes(alloc: Global, count: usize) -> Result<ReplyFrame, NoMemory>
     )
 }
 
-/// The bytes of a frame of which nothing is gone, shown by steps.
-fn shows(alloc: Global, frame: ReplyFrame, step: usize) -> Result<Option<Octets>, NoMemory>
+/// The bytes of a frame of which nothing is gone, shown by steps in a queue where no other waits.
+fn shows(
+    alloc: Global,
+    queue: &mut Queue,
+    frame: ReplyFrame,
+    step: usize,
+) -> Result<Option<Octets>, NoMemory>
     requires { frame ≡ showing frame.frame }
 {
-    let mut queue = Queue::new(alloc)?;
     queue.push(frame)?;
-    shown(alloc, &mut queue, step)
+    shown(alloc, queue, step)
 }
 
 /// Whether the bytes are these, and then this many bytes 5.
@@ -350,9 +354,10 @@ fn topologies_are_told_once(rt: HostRuntime) -> Result<(), Fail> {
 #[test]
 fn long_values_are_shown_in_pieces(rt: HostRuntime) -> Result<(), Fail> {
     let alloc = rt.alloc();
+    let mut queue = Queue::new(alloc)?;
     for step in [65_536, 50_000, 4_099] {
         let frame = frame_of_bytes(alloc, 200_000)?;
-        let Some(bytes) = shows(alloc, frame, step)? else {
+        let Some(bytes) = shows(alloc, &mut queue, frame, step)? else {
             assert!(rt; false);
             return Ok(());
         };
@@ -364,9 +369,10 @@ fn long_values_are_shown_in_pieces(rt: HostRuntime) -> Result<(), Fail> {
 #[test]
 fn long_pages_are_shown_in_pieces(rt: HostRuntime) -> Result<(), Fail> {
     let alloc = rt.alloc();
+    let mut queue = Queue::new(alloc)?;
     for step in [65_536, 50_001] {
         let frame = frame_of_rows(alloc, 15_000)?;
-        let Some(bytes) = shows(alloc, frame, step)? else {
+        let Some(bytes) = shows(alloc, &mut queue, frame, step)? else {
             assert!(rt; false);
             return Ok(());
         };
@@ -380,7 +386,9 @@ fn replies_that_are_too_long_are_faults(rt: HostRuntime) -> Result<(), Fail> {
     let alloc = rt.alloc();
     let longest = 8_388_608 - 17;
     assert_eq!(rt; frame_of_bytes(alloc, longest)?.len(), 8_388_612);
-    let Some(bytes) = shows(alloc, frame_of_bytes(alloc, longest + 1)?, 65_536)? else {
+    let mut queue = Queue::new(alloc)?;
+    let frame = frame_of_bytes(alloc, longest + 1)?;
+    let Some(bytes) = shows(alloc, &mut queue, frame, 65_536)? else {
         assert!(rt; false);
         return Ok(());
     };
