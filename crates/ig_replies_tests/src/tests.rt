@@ -351,47 +351,78 @@ fn topologies_are_told_once(rt: HostRuntime) -> Result<(), Fail> {
     Ok(())
 }
 
+/// Whether a list of 200,000 bytes is shown by these steps as its frame is.
+fn list_holds(alloc: Global, step: usize) -> Result<bool, NoMemory> {
+    let mut queue = Queue::new(alloc)?;
+    shows_list(alloc, &mut queue, 200_000, step)
+}
+
+fn shows_list(
+    alloc: Global,
+    queue: &mut Queue,
+    count: usize,
+    step: usize,
+) -> Result<bool, NoMemory> {
+    let frame = frame_of_bytes(alloc, count)?;
+    let Some(bytes) = shows(alloc, queue, frame, step)? else {
+        return Ok(false);
+    };
+    is_list(alloc, bytes.as_slice(), &BEFORE_LIST, count)
+}
+
 #[test]
 fn long_values_are_shown_in_pieces(rt: HostRuntime) -> Result<(), Fail> {
-    let alloc = rt.alloc();
-    let mut queue = Queue::new(alloc)?;
     for step in [65_536, 50_000, 4_099] {
-        let frame = frame_of_bytes(alloc, 200_000)?;
-        let Some(bytes) = shows(alloc, &mut queue, frame, step)? else {
-            assert!(rt; false);
-            return Ok(());
-        };
-        assert!(rt; is_list(alloc, bytes.as_slice(), &BEFORE_LIST, 200_000)?);
+        assert!(rt; list_holds(rt.alloc(), step)?);
     }
     Ok(())
+}
+
+/// Whether a page of 15,000 rows is shown by these steps as its frame is.
+fn page_holds(alloc: Global, step: usize) -> Result<bool, NoMemory> {
+    let mut queue = Queue::new(alloc)?;
+    shows_page(alloc, &mut queue, 15_000, step)
+}
+
+fn shows_page(alloc: Global, queue: &mut Queue, count: i32, step: usize) -> Result<bool, NoMemory> {
+    let frame = frame_of_rows(alloc, count)?;
+    let Some(bytes) = shows(alloc, queue, frame, step)? else {
+        return Ok(false);
+    };
+    is_page(alloc, bytes.as_slice(), &BEFORE_PAGE, count)
 }
 
 #[test]
 fn long_pages_are_shown_in_pieces(rt: HostRuntime) -> Result<(), Fail> {
-    let alloc = rt.alloc();
-    let mut queue = Queue::new(alloc)?;
     for step in [65_536, 50_001] {
-        let frame = frame_of_rows(alloc, 15_000)?;
-        let Some(bytes) = shows(alloc, &mut queue, frame, step)? else {
-            assert!(rt; false);
-            return Ok(());
-        };
-        assert!(rt; is_page(alloc, bytes.as_slice(), &BEFORE_PAGE, 15_000)?);
+        assert!(rt; page_holds(rt.alloc(), step)?);
     }
     Ok(())
 }
 
+/// How long the frame of a reply with a list of this many bytes is.
+fn len_of_list(alloc: Global, count: usize) -> Result<usize, NoMemory> {
+    Ok(frame_of_bytes(alloc, count)?.len())
+}
+
+/// Whether such a reply is shown as the fault `reply too long`.
+fn is_too_long(alloc: Global, count: usize) -> Result<bool, NoMemory> {
+    let mut queue = Queue::new(alloc)?;
+    shows_fault(alloc, &mut queue, count)
+}
+
+fn shows_fault(alloc: Global, queue: &mut Queue, count: usize) -> Result<bool, NoMemory> {
+    let frame = frame_of_bytes(alloc, count)?;
+    let Some(bytes) = shows(alloc, queue, frame, 65_536)? else {
+        return Ok(false);
+    };
+    Ok(bytes.as_slice() == &TOO_LONG[..])
+}
+
 #[test]
 fn replies_that_are_too_long_are_faults(rt: HostRuntime) -> Result<(), Fail> {
-    let alloc = rt.alloc();
     let longest = 8_388_608 - 17;
-    assert_eq!(rt; frame_of_bytes(alloc, longest)?.len(), 8_388_612);
-    let mut queue = Queue::new(alloc)?;
-    let frame = frame_of_bytes(alloc, longest + 1)?;
-    let Some(bytes) = shows(alloc, &mut queue, frame, 65_536)? else {
-        assert!(rt; false);
-        return Ok(());
-    };
-    assert_eq!(rt; bytes.as_slice(), &TOO_LONG[..]);
+    assert_eq!(rt; len_of_list(rt.alloc(), longest)?, 8_388_612);
+    assert!(rt; is_too_long(rt.alloc(), longest + 1)?);
     Ok(())
 }
