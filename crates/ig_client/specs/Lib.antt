@@ -1,3 +1,11 @@
 pub mod Fronts
-pub mod Calls
+pub mod PendingState
 pub mod Coded
+pub mod RequestBodies
+pub mod Cutting
+pub mod Pairs
+pub mod LinkSince
+pub mod ChannelRun
+pub mod Stands
+pub mod Steps
+pub mod Greeted

@@ -2,8 +2,11 @@
 
 ghost use Rattle.std.specs.Prelude.{◌≡◌};
 ghost use Rattle.ig_client.specs.declared.fault.ChannelFault.TheVariants as fault;
+ghost use Rattle.ig_client.specs.declared.fault.HandshakeFault.TheVariants as handshake;
 
-use ig_base::NoMemory;
+use ig_base::{NoMemory, Text};
+use ig_wire::Version;
+use std::alloc::AllocError;
 use std::error::Error;
 use std::fmt;
 
@@ -54,6 +57,51 @@ pub enum ChannelFault {
     NoMemory,
 }
 
+/// Why a handshake failed.
+#[derive(Debug, Drop)]
+pub enum HandshakeFault {
+    /// The link failed or ended, or the length of the server's frame is out of range.
+    Broke(Break),
+    /// The server's frame isn't a reply to a hello.
+    BadReply {
+        /// The offset, from the frame's first length byte on, at which the first wrong item begins.
+        place: usize,
+    },
+    /// The server refuses the hello.
+    Refused {
+        /// The highest version that it accepts.
+        version: Version,
+        /// Why it refuses the hello.
+        text: Text,
+    },
+    /// Out of memory.
+    NoMemory,
+}
+
+impl From<NoMemory> for HandshakeFault {
+    ghost from_gives = { λ _ e. e ≡ handshake.NoMemory };
+
+    fn from(_error: NoMemory) -> HandshakeFault {
+        HandshakeFault::NoMemory
+    }
+}
+
+impl From<AllocError> for HandshakeFault {
+    ghost from_gives = { λ _ e. e ≡ handshake.NoMemory };
+
+    fn from(_error: AllocError) -> HandshakeFault {
+        HandshakeFault::NoMemory
+    }
+}
+
+impl From<AllocError> for ChannelFault {
+    ghost from_gives = { λ _ e. e ≡ fault.NoMemory };
+
+    fn from(_error: AllocError) -> ChannelFault {
+        ChannelFault::NoMemory
+    }
+}
+
 impl From<NoMemory> for ChannelFault {
     ghost from_gives = { λ _ e. e ≡ fault.NoMemory };
 
@@ -101,3 +149,25 @@ impl fmt::Display for ChannelFault {
 }
 
 impl Error for ChannelFault {}
+
+impl fmt::Display for HandshakeFault {
+    fn fmt<W: fmt::Write>(&self, f: &mut fmt::Formatter<W>) -> fmt::Result {
+        match self {
+            HandshakeFault::Broke(cause) => fmt::Display::fmt(cause, f),
+            HandshakeFault::BadReply { place } => write!(
+                f,
+                "the server's reply to the hello is malformed at offset {place} of its frame"
+            ),
+            HandshakeFault::Refused { version, text } => {
+                let text = text.as_str();
+                write!(
+                    f,
+                    "the server, whose highest version is {version}, refused the hello: {text}"
+                )
+            }
+            HandshakeFault::NoMemory => fmt::Display::fmt(&NoMemory, f),
+        }
+    }
+}
+
+impl Error for HandshakeFault {}

@@ -2,7 +2,7 @@
 
 ghost use Rattle.std.specs.Prelude.{◌≡◌, ◌∷◌, [], None, Some, OnOk, OnErr};
 ghost use Rattle.std.specs.FinMap as map;
-ghost use Rattle.ig_client.specs.Calls.{map_of, is_waiting, came, left_by};
+ghost use Rattle.ig_client.specs.PendingState.{map_of, is_waiting, came, left_by};
 
 use ig_base::{NoMemory, Octets};
 use std::collections::BTreeMap;

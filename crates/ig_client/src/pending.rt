@@ -1,36 +1,34 @@
-//! The calls of a channel by their identifiers, and the frame that is being read.
+//! A channel without its link: the calls by their identifiers, and the frame that is being read.
 //!
-//! Nothing here knows how bytes come or go. A call is added when its request is about to be sent. The
+//! Nothing here knows how bytes come or go. A call is offered when its request is about to be sent. The
 //! bytes that come are filed piece by piece: no piece goes beyond the end of a frame, so a whole frame
-//! moves to its call without a copy.
+//! moves to its call without another copy.
 //!
 //! ```text
-//!            add              a frame comes             take
+//!           offer             a frame comes             take
 //!   (none)  ---->  pending   -------------->  replied  ---->  (none)
 //! ```
 
 ghost use Rattle.std.specs.Prelude.{◌≡◌, ◌<◌, ◌≤◌, length, None, Ok, IfOk, OnOk, OnErr};
-ghost use Rattle.ig_client.specs.Calls.{no_calls, next_id, with_call, next_read, with_room, filed, unless_broken, broken, reply_to, after_take};
+ghost use Rattle.ig_wire.specs.Versions.{server_side};
+ghost use Rattle.ig_wire.specs.Limits.{piece_bytes};
+ghost use Rattle.ig_client.specs.PendingState.{no_calls, next_id, with_call, next_read, with_room, filed, unless_broken, broken, reply_to, after_take};
 
 use crate::fault::{Break, ChannelFault};
 use crate::front::{Front, front_of};
 use crate::replies::{Replies, is_waiting, put_call, put_reply, take_reply};
 use ig_base::{NoMemory, Octets, frame_is_read, get_i64};
+use ig_wire::{PENDING_CALLS, PIECE, Version};
 use std::alloc::Global;
 use std::collections::BTreeMap;
 use std::marker::Model;
 use std::mem;
 
-/// The most bytes that are read at once.
-const MOST_READ: usize = 65_536;
-
-/// How many calls may be pending.
-const MOST_PENDING: u32 = 1_024;
-
-/// The calls whose replies weren't taken, and the bytes of the frame that is being read.
+/// A channel without its link. Contracts see the calls whose replies weren't taken, the bytes of the
+/// frame that is being read, and how the channel broke.
 #[derive(Drop)]
-pub(crate) struct Calls {
-    alloc: Global,
+pub struct Pending {
+    pub(crate) alloc: Global,
     least: u32,
     last: u64,
     waiting: u32,
@@ -41,14 +39,14 @@ pub(crate) struct Calls {
     down: Option<Break>,
 }
 
-impl Model for Calls {
+impl Model for Pending {
     ghost use Rattle.std.specs.Prelude.{◌≤◌, ◌+◌, vec_len, vec_capacity};
-    ghost use Rattle.ig_client.specs.Calls.{CallsState, IsKept, map_of};
-    ghost use Rattle.ig_client.specs.Coded.{coded_calls};
+    ghost use Rattle.ig_client.specs.PendingState.{PendingState, IsKept, map_of};
+    ghost use Rattle.ig_client.specs.Coded.{coded_pending};
 
-    ghost Value = { CallsState };
+    ghost Value = { PendingState };
 
-    ghost coded = { coded_calls };
+    ghost coded = { coded_pending };
 
     ghost view = { λ c. record {
       least = c.least;
@@ -73,15 +71,19 @@ impl Model for Calls {
     }) };
 }
 
-impl Calls {
-    /// No calls. A reply's body has at least `least` bytes. Takes no memory.
-    pub fn new(alloc: Global, least: u32) -> Calls
-        ensures { result ≡ no_calls least }
+impl Pending {
+    /// A channel of this version, on which no call was made.
+    ///
+    /// # Errors
+    ///
+    /// [`NoMemory`] if memory runs out.
+    pub fn new(alloc: Global, version: Version) -> Result<Pending, NoMemory>
+        ensures { IfOk result (λ pending. pending ≡ no_calls (server_side version).later) }
     {
         frame_is_read();
-        Calls {
+        Ok(Pending {
             alloc,
-            least,
+            least: version.least_reply(),
             last: 0,
             waiting: 0,
             replies: BTreeMap::new(alloc),
@@ -89,7 +91,7 @@ impl Calls {
             part: Vec::new(alloc),
             room: 0,
             down: None,
-        }
+        })
     }
 
     /// How the channel broke, if it did. Takes no memory.
@@ -112,7 +114,7 @@ impl Calls {
     ///
     /// The first that holds: [`ChannelFault::Down`] if the channel broke, [`ChannelFault::Spent`] if all
     /// identifiers were used, and [`ChannelFault::Full`] if as many calls are pending as may be.
-    pub fn next_id(&self) -> Result<i64, ChannelFault>
+    pub(crate) fn next_id(&self) -> Result<i64, ChannelFault>
         ensures { result ≡ next_id self.now }
     {
         if let Some(cause) = self.down {
@@ -121,14 +123,14 @@ impl Calls {
         let Ok(id) = i64::try_from(self.last + 1) else {
             return Err(ChannelFault::Spent);
         };
-        if self.waiting >= MOST_PENDING {
+        if self.waiting as usize >= PENDING_CALLS {
             return Err(ChannelFault::Full);
         }
         Ok(id)
     }
 
     /// Adds a call under the next identifier. On an error nothing was added.
-    pub fn add(&mut self, id: i64) -> Result<(), NoMemory>
+    pub(crate) fn add(&mut self, id: i64) -> Result<(), NoMemory>
         requires { next_id self.old ≡ Ok id }
         ensures ok { OnOk result (self.new ≡ with_call self.old) }
         ensures err { OnErr result (self.new ≡ self.old) }
@@ -143,7 +145,7 @@ impl Calls {
     /// nothing changed.
     pub fn room(&mut self) -> Result<usize, NoMemory>
         requires { self.old.down ≡ None }
-        ensures size { IfOk result (λ n. (n ≡ next_read self.old) × (0 < n) × (n ≤ 65536)) }
+        ensures size { IfOk result (λ n. (n ≡ next_read self.old) × (0 < n) × (n ≤ piece_bytes)) }
         ensures ok { OnOk result (self.new ≡ with_room self.old) }
         ensures err { OnErr result (self.new ≡ self.old) }
     {
@@ -152,10 +154,10 @@ impl Calls {
             Front::Missing(count) => count,
             _ => 0,
         };
-        let room = if missing < MOST_READ {
+        let room = if missing < PIECE {
             missing
         } else {
-            MOST_READ
+            PIECE
         };
         self.part.reserve(room)?;
         self.room = room;

@@ -1,13 +1,14 @@
 -- What contracts see of a channel without its link: the calls whose replies weren't taken, and the frame
 -- that is being read.
-use Rattle.std.specs.Prelude.{◌≡◌, ℕ, ◌+◌, ◌-◌, ◌^◌, ◌<◌, min, ℤ, pos, List, [], ◌∷◌, ◌++◌, length, nat_lt, Option, None, Some, Result, Ok, Err, if◌then◌else◌}
+use Rattle.std.specs.Prelude.{◌≡◌, ℕ, ◌+◌, ◌-◌, ◌^◌, ◌<◌, min, ℤ, pos, List, [], ◌∷◌, ◌++◌, length, nat_lt, nat_le, Bool, true, false, Option, None, Some, Result, Ok, Err, if◌then◌else◌}
 use Rattle.std.specs.Option.{unwrap_or}
 use Rattle.std.specs.Ordering.{int_cmp}
 use Rattle.std.specs.Int.{w64}
 use Rattle.std.specs.FinMap as map
 use Rattle.std.specs.FinMap.{FinMap}
 use Rattle.ig_base.specs.Numbers.{number_at}
-use Rattle.ig_base.specs.Frames.{Front, Body, Bad, Incomplete, front, max_body}
+use Rattle.ig_base.specs.Frames.{Frame, Front, Body, Bad, Incomplete, front, max_body}
+use Rattle.ig_wire.specs.Limits.{most_pending_calls, piece_bytes}
 use Rattle.ig_client.specs.declared.fault.Break.{Break}
 use Rattle.ig_client.specs.declared.fault.Break.TheVariants.{BadFrame, Unasked}
 use Rattle.ig_client.specs.declared.fault.ChannelFault.{ChannelFault}
@@ -21,7 +22,7 @@ Replies = FinMap int_cmp (Option (List ℕ))
 abbrev pub map_of : List (ℤ × Option (List ℕ)) → Replies
 map_of es = map.from_entries es
 
-pub record CallsState : Type 0 where
+pub record PendingState : Type 0 where
   -- the least length of a reply's body
   pub least : ℕ
   -- the identifier that was given last, 0 if none was
@@ -41,7 +42,7 @@ pub record CallsState : Type 0 where
   pub down : Option Break
 
 -- no call was made, and nothing was read
-abbrev pub no_calls : ℕ → CallsState
+abbrev pub no_calls : ℕ → PendingState
 no_calls least = record {
   least = least;
   last = 0;
@@ -59,27 +60,41 @@ no_calls least = record {
 abbrev pub last_id : ℕ
 last_id = 2 ^ 63 - 1
 
--- the calls that may be pending
-abbrev pub most_pending : ℕ
-most_pending = 1024
+-- The identifier of the next call of a channel that broke in this way, or didn't, that gave this many
+-- identifiers, and of which so many calls are pending. Else: it broke before; all identifiers were
+-- used; as many calls are pending as may be.
+abbrev pub next_after : Option Break → ℕ → ℕ → Result ℤ ChannelFault
+next_after (Some cause) last waiting = Err (fault.Down cause)
+next_after None last waiting =
+    if nat_lt last last_id then (if nat_lt waiting most_pending_calls then Ok (pos (last + 1))
+    else Err fault.Full) else Err fault.Spent
 
--- the next identifier; or, the channel broke before; else all identifiers were used; else as many calls
--- are pending as may be
-abbrev pub next_id : CallsState → Result ℤ ChannelFault
-next_id c = unless_down c.down where
-  unless_down : Option Break → Result ℤ ChannelFault
-  unless_down (Some cause) = Err (fault.Down cause)
-  unless_down None =
-      if nat_lt c.last last_id then (if nat_lt c.waiting most_pending then Ok (pos (c.last + 1))
-      else Err fault.Full) else Err fault.Spent
+abbrev pub next_id : PendingState → Result ℤ ChannelFault
+next_id c = next_after c.down c.last c.waiting
 
 -- with a call under the next identifier, which is pending
-abbrev pub with_call : CallsState → CallsState
+abbrev pub with_call : PendingState → PendingState
 with_call c = record c {
   last = c.last + 1;
   waiting = c.waiting + 1;
   replies = map.insert c.replies (pos (c.last + 1)) None;
 }
+
+-- the identifier of the next call, if the body of its frame isn't above the limit
+abbrev pub offered : (ℤ → List ℕ) → Result ℤ ChannelFault → Result ℤ ChannelFault
+offered body (Err cause) = Err cause
+offered body (Ok id) = if nat_le (length (body id)) max_body then Ok id else Err fault.TooLong
+
+-- A call is offered: it gets the next identifier, its frame is appended, and it is pending. Or it is
+-- refused, or memory runs out, and nothing changed.
+abbrev pub Offers : (ℤ → List ℕ) → PendingState → PendingState → List ℕ → List ℕ → Result ℤ ChannelFault → Type 0
+Offers body old new out out' (Ok id) =
+    (offered body (next_id old) ≡ Ok id) × (new ≡ with_call old) × (out' ≡ out ++ Frame (body id))
+Offers body old new out out' (Err cause) =
+    OrNoMemory (offered body (next_id old)) cause × (new ≡ old) × (out' ≡ out) where
+      OrNoMemory : Result ℤ ChannelFault → ChannelFault → Type 0
+      OrNoMemory answer fault.NoMemory = Unit {0}
+      OrNoMemory answer other = answer ≡ Err other
 
 -- ---- what comes
 
@@ -88,15 +103,11 @@ missing_of (Incomplete n) = n
 missing_of (Bad n) = 0
 missing_of (Body body rest) = 0
 
--- the most bytes that are read at once
-abbrev pub most_read : ℕ
-most_read = 65536
-
 -- how many bytes are read next: up to the end of the length, or of the frame
-abbrev pub next_read : CallsState → ℕ
-next_read c = min most_read (missing_of (front c.least max_body c.part))
+abbrev pub next_read : PendingState → ℕ
+next_read c = min piece_bytes (missing_of (front c.least max_body c.part))
 
-abbrev pub with_room : CallsState → CallsState
+abbrev pub with_room : PendingState → PendingState
 with_room c = record c { room = next_read c }
 
 -- the identifier in a reply's body
@@ -110,11 +121,11 @@ is_waiting (Some None) = true
 is_waiting (Some (Some frame)) = false
 
 -- the channel broke
-abbrev pub broken : Break → CallsState → CallsState
+abbrev pub broken : Break → PendingState → PendingState
 broken cause c = record c { down = Some cause }
 
 -- the frame that was being read is the reply to this call
-abbrev pub with_reply : ℤ → CallsState → CallsState
+abbrev pub with_reply : ℤ → PendingState → PendingState
 with_reply id c = record c {
   waiting = c.waiting - 1;
   replies = map.insert c.replies id (Some c.part);
@@ -124,17 +135,17 @@ with_reply id c = record c {
 
 -- with what the frame's bytes are now: less than a frame; a length out of range; or a frame, which is the
 -- reply to a pending call or wasn't asked for
-abbrev pub with_front : Front → CallsState → CallsState
+abbrev pub with_front : Front → PendingState → PendingState
 with_front (Incomplete n) c = c
 with_front (Bad n) c = broken (BadFrame c.place n) c
 with_front (Body body rest) c =
     if is_waiting (map.get c.replies (id_of body)) then with_reply (id_of body) c else broken (Unasked (id_of body)) c
 
 -- with more bytes of the frame
-abbrev pub with_bytes : List ℕ → CallsState → CallsState
+abbrev pub with_bytes : List ℕ → PendingState → PendingState
 with_bytes piece c = record c { part = c.part ++ piece; room = 0 }
 
-abbrev pub filed : List ℕ → CallsState → CallsState
+abbrev pub filed : List ℕ → PendingState → PendingState
 filed piece c = with_front (front c.least max_body (c.part ++ piece)) (with_bytes piece c)
 
 -- how it broke, or nothing
@@ -149,7 +160,7 @@ came None = None
 came (Some reply) = reply
 
 -- the reply to the call with this identifier, if it came and wasn't taken
-abbrev pub reply_to : ℤ → CallsState → Option (List ℕ)
+abbrev pub reply_to : ℤ → PendingState → Option (List ℕ)
 reply_to id c = came (map.get c.replies id)
 
 -- the calls without the one whose reply is taken, if one is
@@ -158,17 +169,17 @@ left_by id None replies = replies
 left_by id (Some reply) replies = map.remove replies id
 
 -- without the reply that is taken
-abbrev pub after_take : ℤ → CallsState → CallsState
+abbrev pub after_take : ℤ → PendingState → PendingState
 after_take id c = record c { replies = left_by id (reply_to id c) c.replies }
 
 -- ---- what always holds
 
 -- a channel that isn't down has read less than a frame since the last one
-abbrev pub IsReading : CallsState → Type 0
+abbrev pub IsReading : PendingState → Type 0
 IsReading c = c.down ≡ None → (n : ℕ) × (front c.least max_body c.part ≡ Incomplete n)
 
 -- identifiers are up to the greatest, each call under one that was given, and not too many are pending
-pub record IsKept (c : CallsState) : Type 0 where
+pub record IsKept (c : PendingState) : Type 0 where
   pub ids : c.last < 2 ^ 63
-  pub pending : c.waiting < most_pending + 1
+  pub pending : c.waiting < most_pending_calls + 1
   pub reading : IsReading c

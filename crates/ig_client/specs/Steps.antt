@@ -1,0 +1,39 @@
+-- What the steps of a channel leave of what contracts see, and what they say of its link.
+use Rattle.std.specs.Prelude.{◌≡◌, ℕ, ◌≤◌, ℤ, List, [], length, take, Option, None, Some, Result, Ok, Err}
+use Rattle.std.specs.Prelude.{Vec}
+use Rattle.ig_link.specs.States.{SinkState, SinkAdvances}
+use Rattle.ig_link.specs.WritesAs.{SentPart}
+use Rattle.ig_link.specs.declared.link.TakeNow.{TakeNow}
+use Rattle.ig_link.specs.declared.link.TakeNow.TheVariants as now
+use Rattle.ig_client.specs.declared.fault.Break.TheVariants.{ReadFault, WriteFault, PeerEnded}
+use Rattle.ig_client.specs.declared.fault.ChannelFault.{ChannelFault}
+use Rattle.ig_client.specs.declared.fault.ChannelFault.TheVariants.{Broke, Down, NoMemory}
+use Rattle.ig_client.specs.PendingState.{PendingState, broken, with_room, next_read, filed, unless_broken}
+
+-- the whole frame was written; or a front of it, not all, and then a write failed
+abbrev pub Sends : ℤ → List ℕ → PendingState → PendingState → SinkState → SinkState → Result ℤ ChannelFault → Type 0
+Sends id frame old new sink sink' (Ok given) =
+    (given ≡ id) × (new ≡ old) × SinkAdvances sink sink' frame × (sink'.faults ≡ sink.faults)
+Sends id frame old new sink sink' (Err cause) =
+    (cause ≡ Broke WriteFault) × (new ≡ broken WriteFault old) × ((sent : ℕ) × SentPart sent sink sink' frame)
+
+-- room for the next read, if a call is pending; or the channel broke before, or memory ran out
+abbrev pub TakesRoom : PendingState → PendingState → Result (Vec ℕ) ChannelFault → Type 0
+TakesRoom old new (Ok piece) =
+    (old.down ≡ None) × ((old.waiting ≡ 0) × (piece.items ≡ []) × (new ≡ old))
+    ⊎ ((1 ≤ old.waiting) × (length piece.items ≡ next_read old) × (1 ≤ length piece.items) × (new ≡ with_room old))
+TakesRoom old new (Err cause) = (old ≡ new)
+
+abbrev pub may_hold : TakeNow → List ℕ → Type 0
+may_hold (now.Bytes n) piece = n ≤ length piece
+may_hold _ piece = Unit {0}
+
+-- the bytes that were taken are filed; nothing was there yet; the link ended; the read failed
+abbrev pub Files : TakeNow → List ℕ → PendingState → PendingState → Result (List ℕ) ChannelFault → Type 0
+Files (now.Bytes n) piece old new (Ok bytes) =
+    (bytes ≡ take n piece) × (new ≡ filed bytes old) × (new.down ≡ None)
+Files (now.Bytes n) piece old new (Err cause) =
+    (new ≡ filed (take n piece) old) × (broke : _) × (new.down ≡ Some broke) × (cause ≡ Broke broke)
+Files now.NotYet piece old new answer = (answer ≡ Ok []) × (new ≡ old)
+Files now.End piece old new answer = (answer ≡ Err (Broke PeerEnded)) × (new ≡ broken PeerEnded old)
+Files now.Failed piece old new answer = (answer ≡ Err (Broke ReadFault)) × (new ≡ broken ReadFault old)

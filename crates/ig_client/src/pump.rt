@@ -1,0 +1,98 @@
+//! What a channel does with its link, step by step: each step knows a source's answer or a sink alone.
+
+ghost use Rattle.std.specs.Prelude.{◌≡◌, ◌<◌, ◌≤◌, length, None, Ok, IfOk, IfErr, OnOk, OnErr};
+ghost use Rattle.ig_client.specs.PendingState.{broken, next_read};
+ghost use Rattle.ig_client.specs.Steps.{Sends, TakesRoom, Files, may_hold};
+
+use crate::fault::{Break, ChannelFault};
+use crate::pending::Pending;
+use ig_base::Octets;
+use ig_link::{Sink, TakeNow, send_all};
+use std::alloc::Global;
+
+/// Writes the frame of a call that was offered, and answers its identifier.
+///
+/// # Errors
+///
+/// [`ChannelFault::Broke`] with [`Break::WriteFault`] if a write fails; the channel is broken then.
+pub(crate) fn send_frame<K: Sink>(
+    pending: &mut Pending,
+    sink: &mut K,
+    id: i64,
+    frame: &[u8],
+) -> Result<i64, ChannelFault>
+    requires { pending.old.down ≡ None }
+    ensures sends { Sends id frame.now pending.old pending.new (K.sink sink.old) (K.sink sink.new) result }
+    ensures beside { K.source_beside sink.new ≡ K.source_beside sink.old }
+{
+    match send_all(sink, frame) {
+        Ok(()) => Ok(id),
+        Err(_) => {
+            pending.broke(Break::WriteFault);
+            Err(ChannelFault::Broke(Break::WriteFault))
+        }
+    }
+}
+
+/// Room for the bytes that a pump reads next, all 0. There is none where no call is pending.
+///
+/// # Errors
+///
+/// [`ChannelFault::Down`] if the channel broke, and [`ChannelFault::NoMemory`] if memory runs out.
+pub(crate) fn next_piece(
+    alloc: Global,
+    pending: &mut Pending,
+) -> Result<Vec<u8>, ChannelFault>
+    ensures { TakesRoom pending.old pending.new result }
+{
+    if let Some(cause) = pending.down() {
+        return Err(ChannelFault::Down(cause));
+    }
+    let mut piece = Vec::new(alloc);
+    if pending.pending() == 0 {
+        return Ok(piece);
+    }
+    let room = pending.room()?;
+    piece.resize(room, 0)?;
+    Ok(piece)
+}
+
+/// Files what a read answered, and gives the bytes that it took. Takes no memory.
+///
+/// # Errors
+///
+/// [`ChannelFault::Broke`] if the read failed, the server ended the connection, or what it sent isn't
+/// the reply to a pending call.
+pub(crate) fn file_read(
+    pending: &mut Pending,
+    answer: TakeNow,
+    piece: Vec<u8>,
+) -> Result<Octets, ChannelFault>
+    requires up { pending.old.down ≡ None }
+    requires fits { length piece.items ≤ pending.old.room }
+    requires taken { may_hold answer piece.items }
+    ensures { Files answer piece.items pending.old pending.new result }
+{
+    let mut piece = piece;
+    match answer {
+        TakeNow::Bytes(n) => {
+            piece.truncate(n);
+            match pending.file(piece.as_slice()) {
+                Ok(()) => Ok(Octets::new(piece)),
+                Err(cause) => Err(ChannelFault::Broke(cause)),
+            }
+        }
+        TakeNow::NotYet => {
+            piece.clear();
+            Ok(Octets::new(piece))
+        }
+        TakeNow::End => {
+            pending.broke(Break::PeerEnded);
+            Err(ChannelFault::Broke(Break::PeerEnded))
+        }
+        TakeNow::Failed => {
+            pending.broke(Break::ReadFault);
+            Err(ChannelFault::Broke(Break::ReadFault))
+        }
+    }
+}
