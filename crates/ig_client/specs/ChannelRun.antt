@@ -15,8 +15,8 @@ use Rattle.ig_client.specs.declared.fault.ChannelFault.{ChannelFault}
 use Rattle.ig_client.specs.declared.fault.ChannelFault.TheVariants as fault
 use Rattle.ig_client.specs.declared.ask.ChannelAsk.{ChannelAsk}
 use Rattle.ig_client.specs.declared.ask.ChannelAsk.TheVariants as ask
-use Rattle.ig_client.specs.declared.ask.GotData.{GotData}
-use Rattle.ig_client.specs.declared.ask.GotData.TheVariants as got
+use Rattle.ig_client.specs.declared.ask.ChannelGot.TheVariants as got
+use Rattle.ig_client.specs.Pairs.{GotData}
 use Rattle.ig_client.specs.declared.ask.ChannelStart.{ChannelStart}
 
 -- the least length of a reply's body

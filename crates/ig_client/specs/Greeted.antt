@@ -2,6 +2,8 @@
 use Rattle.std.specs.Prelude.{◌≡◌, ℕ, ◌≤◌, ◌<◌, ◌⊎◌, true, List, [], ◌∷◌, ◌++◌, length, take, drop, Option, None, Some, Result, Ok, Err}
 use Rattle.ig_base.specs.Frames.{Frame, Front, Body, Bad, Incomplete, front, max_body}
 use Rattle.ig_base.specs.declared.NodeId.{NodeId}
+use Rattle.ig_link.specs.Shows.{Shows}
+use Rattle.ig_link.specs.declared.link.Retired.{Retired}
 use Rattle.ig_link.specs.States.{SourceState, SinkState, Rose, SourceAdvances, SinkAdvances}
 use Rattle.ig_wire.specs.Fields.{in_frame}
 use Rattle.ig_wire.specs.Greets.{hello_bytes}
@@ -72,3 +74,15 @@ Greeted version login source source' sink sink' (Err fault.NoMemory) = Unit {0}
 Greeted version login source source' sink sink' (Err cause) =
     (body : List ℕ) × SinkAdvances sink sink' (Frame (hello_bytes version login))
     × ReadsFrame source source' (Ok (Frame body)) × Answered (hello_reply_of version body) body (Err cause)
+
+-- The link that a channel wasn't started over: it was retired as the handshake left it.
+abbrev pub GreetedInVain : Version → Option Login → SourceState → SinkState → HandshakeFault → Retired → Type 0
+GreetedInVain version login source sink cause shown =
+    (source' : SourceState) × (sink' : SinkState) × Shows source' sink' shown
+    × Greeted version login source source' sink sink' (Err cause)
+
+-- The link of a channel that was started.
+abbrev pub GreetedWell : {L : Type 0} → (L → SourceState) → (L → SinkState) → Version → Option Login → L → Option L → Option NodeId → Type 0
+GreetedWell source sink version login before (Some after) node =
+    Greeted version login (source before) (source after) (sink before) (sink after) (Ok node)
+GreetedWell source sink version login before None node = ⊥

@@ -9,3 +9,4 @@ pub mod ChannelRun
 pub mod Stands
 pub mod Steps
 pub mod Greeted
+pub mod Plain

@@ -7,8 +7,8 @@ use Rattle.ig_wire.specs.Versions.{server_side}
 use Rattle.ig_client.specs.Cutting.{cut, asked}
 use Rattle.ig_client.specs.Pairs.{Pair, sent, sent_bytes, pumped, broken_frame, answers_break, is_read_fault, is_write_fault, is_end}
 use Rattle.ig_client.specs.declared.ask.ChannelStart.{ChannelStart}
-use Rattle.ig_client.specs.declared.ask.GotData.{GotData}
-use Rattle.ig_client.specs.declared.ask.GotData.TheVariants as got
+use Rattle.ig_client.specs.declared.ask.ChannelGot.TheVariants as got
+use Rattle.ig_client.specs.Pairs.{GotData}
 
 -- the pumps that gave no bytes while a call was pending, after these pairs
 abbrev pub idle_pumps : ChannelStart → List Pair → List Pair → ℕ

@@ -11,8 +11,13 @@ use Rattle.ig_client.specs.declared.fault.Break.TheVariants as break
 use Rattle.ig_client.specs.declared.fault.ChannelFault.TheVariants.{Broke}
 use Rattle.ig_client.specs.declared.ask.ChannelAsk.{ChannelAsk}
 use Rattle.ig_client.specs.declared.ask.ChannelAsk.TheVariants as ask
-use Rattle.ig_client.specs.declared.ask.GotData.{GotData}
-use Rattle.ig_client.specs.declared.ask.GotData.TheVariants as got
+use Rattle.ig_link.specs.declared.link.Retired.{Retired}
+use Rattle.ig_client.specs.declared.ask.ChannelGot.{ChannelGot}
+use Rattle.ig_client.specs.declared.ask.ChannelGot.TheVariants as got
+
+-- what is left of a link stands as what it shows
+abbrev pub GotData : Type 0
+GotData = ChannelGot Retired
 
 abbrev pub Pair : Type 0
 Pair = ChannelAsk × GotData

@@ -85,16 +85,18 @@ abbrev pub offered : (ℤ → List ℕ) → Result ℤ ChannelFault → Result �
 offered body (Err cause) = Err cause
 offered body (Ok id) = if nat_le (length (body id)) max_body then Ok id else Err fault.TooLong
 
+-- the answer is this refusal, or memory ran out
+abbrev pub OrNoMemory : Result ℤ ChannelFault → ChannelFault → Type 0
+OrNoMemory answer fault.NoMemory = Unit {0}
+OrNoMemory answer cause = answer ≡ Err cause
+
 -- A call is offered: it gets the next identifier, its frame is appended, and it is pending. Or it is
 -- refused, or memory runs out, and nothing changed.
 abbrev pub Offers : (ℤ → List ℕ) → PendingState → PendingState → List ℕ → List ℕ → Result ℤ ChannelFault → Type 0
 Offers body old new out out' (Ok id) =
     (offered body (next_id old) ≡ Ok id) × (new ≡ with_call old) × (out' ≡ out ++ Frame (body id))
 Offers body old new out out' (Err cause) =
-    OrNoMemory (offered body (next_id old)) cause × (new ≡ old) × (out' ≡ out) where
-      OrNoMemory : Result ℤ ChannelFault → ChannelFault → Type 0
-      OrNoMemory answer fault.NoMemory = Unit {0}
-      OrNoMemory answer other = answer ≡ Err other
+    OrNoMemory (offered body (next_id old)) cause × (new ≡ old) × (out' ≡ out)
 
 -- ---- what comes
 

@@ -3,7 +3,6 @@
 use crate::fault::ChannelFault;
 use ig_base::{Items, Octets};
 use ig_caches::Request;
-use ig_link::{Link, Retired};
 use ig_wire::Version;
 
 /// What a channel behind a turn is asked. In a history it stands as it is.
@@ -21,9 +20,10 @@ pub enum ChannelAsk {
     Close,
 }
 
-/// What it answers.
-#[derive(Drop)]
-pub enum ChannelGot<L: Link> {
+/// What it answers. `A` is what is left of its link after it was retired; in a history that stands as the
+/// [`ig_link::Retired`] that it shows.
+#[derive(Debug, Drop)]
+pub enum ChannelGot<A> {
     /// The request was sent under this identifier.
     Sent(i64),
     /// It was refused, and comes back.
@@ -35,26 +35,12 @@ pub enum ChannelGot<L: Link> {
     },
     /// These bytes were read.
     Pumped(Octets),
-    /// Nothing more is read.
+    /// Nothing was read, or what was read broke the channel.
     NotPumped(ChannelFault),
     /// The frame of the reply, if it came and wasn't taken.
     Taken(Option<Octets>),
     /// What is left of the link, if the channel wasn't closed before.
-    Closed(Option<L::Left>),
-}
-
-/// What it answered, as the history has it: what is left of a link stands as what it shows.
-pub enum GotData {
-    Sent(i64),
-    NotSent { ask: Request, cause: ChannelFault },
-    NotSentParts {
-        caches: Items<i32>,
-        cause: ChannelFault,
-    },
-    Pumped(Octets),
-    NotPumped(ChannelFault),
-    Taken(Option<Octets>),
-    Closed(Option<Retired>),
+    Closed(Option<A>),
 }
 
 /// What a channel was when its history began, as the history has it: its version, and its link after the

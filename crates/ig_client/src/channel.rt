@@ -3,12 +3,13 @@
 ghost use Rattle.std.specs.Prelude.{◌≡◌, ◌≤◌, length, Some, IsSome, IfOk, IfErr};
 ghost use Rattle.std.specs.Option.{option_copied};
 ghost use Rattle.ig_base.specs.Frames.{max_body};
+ghost use Rattle.ig_link.specs.Shows.{Shows};
 ghost use Rattle.ig_wire.specs.Greets.{MayLogin, hello_bytes};
 
 use crate::fault::{Break, ChannelFault, HandshakeFault};
 use crate::greet::greet;
 use crate::pending::Pending;
-use crate::pump::{file_read, next_piece, send_frame};
+use crate::steps::{file_read, next_piece, submit_over, submit_parts_over};
 use ig_base::{Items, NodeId, Octets};
 use ig_caches::Request;
 use ig_link::Link;
@@ -34,7 +35,13 @@ pub struct NotStarted<L: Link> {
 }
 
 impl<L: Link> Channel<L> {
-    ghost use Rattle.ig_client.specs.Stands.{start_of, Stands, Gains, Keeps};
+    ghost use Rattle.std.specs.Prelude.{[]};
+    ghost use Rattle.ig_client.specs.declared.fault.HandshakeFault.TheVariants.{NoMemory};
+    ghost use Rattle.ig_client.specs.declared.ask.ChannelAsk.TheVariants as asks;
+    ghost use Rattle.ig_client.specs.declared.ask.ChannelGot.TheVariants as got;
+    ghost use Rattle.ig_client.specs.RequestBodies.{IsSubmittable};
+    ghost use Rattle.ig_client.specs.Greeted.{GreetedWell, GreetedInVain};
+    ghost use Rattle.ig_client.specs.Stands.{start_of, ChannelStands, Gains, submit_pair, pump_pair};
 
     /// Greets the server and reads its reply.
     ///
@@ -52,6 +59,12 @@ impl<L: Link> Channel<L> {
     ) -> Result<Channel<L>, NotStarted<L>>
         requires login { MayLogin version (option_copied login) }
         requires small { length (hello_bytes version (option_copied login)) ≤ max_body }
+        ensures stands { IfOk result (λ channel. ChannelStands L.source L.sink channel.pending channel.link
+            (start_of version L.source L.sink channel.link) []) }
+        ensures greeted { IfOk result (λ channel. GreetedWell L.source L.sink version
+            (option_copied login.entry) link channel.link channel.node) }
+        ensures err { IfErr result (λ e. GreetedInVain version (option_copied login.entry)
+            (L.source link) (L.sink link) e.cause (L.Left.shows e.retired)) }
     {
         let mut link = link;
         match greet(alloc, &mut link, version, login) {
@@ -69,7 +82,13 @@ impl<L: Link> Channel<L> {
         link: L,
         version: Version,
         node: Option<NodeId>,
-    ) -> Result<Channel<L>, NotStarted<L>> {
+    ) -> Result<Channel<L>, NotStarted<L>>
+        ensures stands { IfOk result (λ channel. ChannelStands L.source L.sink channel.pending channel.link
+            (start_of version L.source L.sink channel.link) []) }
+        ensures same { IfOk result (λ channel. (channel.link ≡ Some link) × (channel.node ≡ node)) }
+        ensures err { IfErr result (λ e. (e.cause ≡ NoMemory)
+            × Shows (L.source link) (L.sink link) (L.Left.shows e.retired)) }
+    {
         match Pending::new(alloc, version) {
             Ok(pending) => Ok(Channel {
                 alloc,
@@ -103,25 +122,19 @@ impl<L: Link> Channel<L> {
     /// [`ChannelFault::Broke`] if a write fails. The last one alone changes the channel, which is down
     /// from then on. [`ChannelFault::NoMemory`] if memory runs out.
     pub fn submit(&mut self, ask: &Request) -> Result<i64, ChannelFault>
+        requires { IsSubmittable ask.now }
+        ensures { Gains (ChannelStands L.source L.sink self.old.pending self.old.link)
+            (ChannelStands L.source L.sink self.new.pending self.new.link) (submit_pair (asks.Submit ask.now) (got.NotSent ask.now) result) }
     {
-        let mut frame = Octets::empty(self.alloc);
-        let id = self.pending.offer(ask, &mut frame)?;
-        self.send(id, frame.as_slice())
+        submit_over(self.alloc, &mut self.pending, &mut self.link, ask)
     }
 
     /// Submits a request for the partition maps of caches, as `submit` does a request.
-    pub fn submit_parts(&mut self, caches: &Items<i32>) -> Result<i64, ChannelFault> {
-        let mut frame = Octets::empty(self.alloc);
-        let id = self.pending.offer_parts(caches, &mut frame)?;
-        self.send(id, frame.as_slice())
-    }
-
-    /// Writes the frame of a call that was offered.
-    fn send(&mut self, id: i64, frame: &[u8]) -> Result<i64, ChannelFault> {
-        match &mut self.link {
-            Some(link) => send_frame(&mut self.pending, link, id, frame),
-            None => Err(ChannelFault::Down(Break::Closed)),
-        }
+    pub fn submit_parts(&mut self, caches: &Items<i32>) -> Result<i64, ChannelFault>
+        ensures { Gains (ChannelStands L.source L.sink self.old.pending self.old.link)
+            (ChannelStands L.source L.sink self.new.pending self.new.link) (submit_pair (asks.SubmitParts caches.now) (got.NotSentParts caches.now) result) }
+    {
+        submit_parts_over(self.alloc, &mut self.pending, &mut self.link, caches)
     }
 
     /// Reads what is there, and files each whole frame under its identifier. Answers the bytes that were
@@ -133,7 +146,10 @@ impl<L: Link> Channel<L> {
     /// fails, the server ended the connection, or it sent a length out of range or a reply to a call that
     /// isn't pending: then the channel is down from then on. [`ChannelFault::NoMemory`] if memory runs
     /// out; nothing was read then.
-    pub fn pump(&mut self) -> Result<Octets, ChannelFault> {
+    pub fn pump(&mut self) -> Result<Octets, ChannelFault>
+        ensures { Gains (ChannelStands L.source L.sink self.old.pending self.old.link)
+            (ChannelStands L.source L.sink self.new.pending self.new.link) (pump_pair result) }
+    {
         let mut piece = next_piece(self.alloc, &mut self.pending)?;
         if piece.is_empty() {
             return Ok(Octets::new(piece));
@@ -147,13 +163,17 @@ impl<L: Link> Channel<L> {
 
     /// The frame of the reply to the call with this identifier, its length included, if it came and
     /// wasn't taken; it is forgotten then. Takes no memory. Works on a channel that is down.
-    pub fn take(&mut self, id: i64) -> Option<Octets> {
+    pub fn take(&mut self, id: i64) -> Option<Octets>
+        ensures { Gains (ChannelStands L.source L.sink self.old.pending self.old.link)
+            (ChannelStands L.source L.sink self.new.pending self.new.link) (Some (asks.Take id, got.Taken result)) }
+    {
         self.pending.take(id)
     }
 
     /// Retires the link. The channel wasn't closed. Takes no memory.
     pub fn retire(self) -> L::Left
         requires { IsSome self.link }
+        ensures { (link : L) → self.link ≡ Some link → Shows (L.source link) (L.sink link) (L.Left.shows result) }
     {
         let Channel { link, .. } = self;
         link.unwrap().retire()

@@ -28,11 +28,11 @@ mod greet;
 mod offer;
 mod pending;
 mod plain;
-mod pump;
 mod replies;
 mod request;
+mod steps;
 
-pub use ask::{ChannelAsk, ChannelGot, ChannelStart, GotData};
+pub use ask::{ChannelAsk, ChannelGot, ChannelStart};
 pub use channel::{Channel, NotStarted};
 pub use fault::{Break, ChannelFault, HandshakeFault};
 pub use pending::Pending;

@@ -1,97 +1,136 @@
 //! A channel as an object that can be put behind a turn.
 
-use crate::ask::{ChannelAsk, ChannelGot, ChannelStart, GotData};
+ghost use Rattle.std.specs.Prelude.{◌≡◌};
+ghost use Rattle.ig_client.specs.Plain.{submitted, submitted_parts, pump_got};
+
+use crate::ask::{ChannelAsk, ChannelGot, ChannelStart};
 use crate::channel::Channel;
 use crate::fault::{Break, ChannelFault};
-use crate::pump::{file_read, next_piece, send_frame};
-use ig_base::{NoRoom, Octets};
-use ig_link::Link;
+use crate::steps::{file_read, next_piece, submit_over, submit_parts_over};
+use ig_base::{Items, NoRoom, Octets};
+use ig_caches::Request;
+use ig_link::{Link, Retired};
 use ig_turn::Plain;
 
+/// The answer to a submit. A request for which there is no memory comes back.
+fn submitted<A>(
+    answer: Result<i64, ChannelFault>,
+    ask: Request,
+) -> Result<ChannelGot<A>, NoRoom<ChannelAsk>>
+    ensures { result ≡ submitted answer ask }
+{
+    match answer {
+        Ok(id) => {
+            drop(ask);
+            Ok(ChannelGot::Sent(id))
+        }
+        Err(ChannelFault::NoMemory) => Err(NoRoom {
+            back: ChannelAsk::Submit(ask),
+        }),
+        Err(cause) => Ok(ChannelGot::NotSent { ask, cause }),
+    }
+}
+
+/// The answer to a submit of a request for partition maps.
+fn submitted_parts<A>(
+    answer: Result<i64, ChannelFault>,
+    caches: Items<i32>,
+) -> Result<ChannelGot<A>, NoRoom<ChannelAsk>>
+    ensures { result ≡ submitted_parts answer caches }
+{
+    match answer {
+        Ok(id) => Ok(ChannelGot::Sent(id)),
+        Err(ChannelFault::NoMemory) => Err(NoRoom {
+            back: ChannelAsk::SubmitParts(caches),
+        }),
+        Err(cause) => Ok(ChannelGot::NotSentParts { caches, cause }),
+    }
+}
+
+/// The answer to a pump.
+fn pumped<A>(
+    answer: Result<Octets, ChannelFault>,
+) -> Result<ChannelGot<A>, NoRoom<ChannelAsk>>
+    ensures { result ≡ pump_got answer }
+{
+    match answer {
+        Ok(bytes) => Ok(ChannelGot::Pumped(bytes)),
+        Err(ChannelFault::NoMemory) => Err(NoRoom {
+            back: ChannelAsk::Pump,
+        }),
+        Err(cause) => Ok(ChannelGot::NotPumped(cause)),
+    }
+}
+
 impl<L: Link> Plain for Channel<L> {
+    ghost use Rattle.ig_client.specs.Plain.{got_data, CanAsk, IsSure, any_start};
+    ghost use Rattle.ig_client.specs.ChannelRun.{Runs};
+    ghost use Rattle.ig_client.specs.Stands.{ChannelStands, start_of};
+    ghost use Rattle.ig_client.proofs.RunLemmas.{stands_run, runs_front};
+
     type Ask = ChannelAsk;
 
-    type Got = ChannelGot<L>;
+    type Got = ChannelGot<L::Left>;
 
     type AskData = ChannelAsk;
 
-    type GotData = GotData;
+    type GotData = ChannelGot<Retired>;
 
     type Start = ChannelStart;
 
-    fn act(&mut self, ask: ChannelAsk) -> Result<ChannelGot<L>, NoRoom<ChannelAsk>> {
+    ghost ask_data = { λ ask. ask };
+
+    ghost got_data = { λ got. got_data L.Left.shows got };
+
+    ghost stands = { λ channel start pairs. ChannelStands L.source L.sink channel.pending channel.link start pairs };
+
+    ghost runs = { λ start pairs. Runs start pairs };
+
+    ghost start_of = { λ channel. start_of channel.version L.source L.sink channel.link };
+
+    ghost any_start = { any_start };
+
+    ghost fits = { λ ask. CanAsk ask };
+
+    ghost is_sure = { λ ask. IsSure ask };
+
+    fn act(&mut self, ask: ChannelAsk) -> Result<ChannelGot<L::Left>, NoRoom<ChannelAsk>> {
         match ask {
-            ChannelAsk::Submit(request) => {
-                let mut frame = Octets::empty(self.alloc);
-                match self.pending.offer(&request, &mut frame) {
-                    Ok(id) => match &mut self.link {
-                        Some(link) => {
-                            match send_frame(&mut self.pending, link, id, frame.as_slice()) {
-                                Ok(id) => Ok(ChannelGot::Sent(id)),
-                                Err(cause) => Ok(ChannelGot::NotSent { ask: request, cause }),
-                            }
-                        }
-                        None => Ok(ChannelGot::NotSent {
-                            ask: request,
-                            cause: ChannelFault::Down(Break::Closed),
-                        }),
-                    },
-                    Err(ChannelFault::NoMemory) => Err(NoRoom {
-                        back: ChannelAsk::Submit(request),
-                    }),
-                    Err(cause) => Ok(ChannelGot::NotSent { ask: request, cause }),
-                }
-            }
-            ChannelAsk::SubmitParts(caches) => {
-                let mut frame = Octets::empty(self.alloc);
-                match self.pending.offer_parts(&caches, &mut frame) {
-                    Ok(id) => match &mut self.link {
-                        Some(link) => {
-                            match send_frame(&mut self.pending, link, id, frame.as_slice()) {
-                                Ok(id) => Ok(ChannelGot::Sent(id)),
-                                Err(cause) => Ok(ChannelGot::NotSentParts { caches, cause }),
-                            }
-                        }
-                        None => Ok(ChannelGot::NotSentParts {
-                            caches,
-                            cause: ChannelFault::Down(Break::Closed),
-                        }),
-                    },
-                    Err(ChannelFault::NoMemory) => Err(NoRoom {
-                        back: ChannelAsk::SubmitParts(caches),
-                    }),
-                    Err(cause) => Ok(ChannelGot::NotSentParts { caches, cause }),
-                }
-            }
+            ChannelAsk::Submit(request) => submitted(
+                submit_over(self.alloc, &mut self.pending, &mut self.link, &request),
+                request,
+            ),
+            ChannelAsk::SubmitParts(caches) => submitted_parts(
+                submit_parts_over(self.alloc, &mut self.pending, &mut self.link, &caches),
+                caches,
+            ),
             ChannelAsk::Pump => match next_piece(self.alloc, &mut self.pending) {
+                Err(cause) => pumped(Err(cause)),
                 Ok(mut piece) => {
                     if piece.is_empty() {
-                        return Ok(ChannelGot::Pumped(Octets::new(piece)));
+                        return pumped(Ok(Octets::new(piece)));
                     }
                     let Some(link) = &mut self.link else {
-                        return Ok(ChannelGot::NotPumped(ChannelFault::Down(Break::Closed)));
+                        return pumped(Err(ChannelFault::Down(Break::Closed)));
                     };
                     let answer = link.read_now(piece.as_mut_slice());
-                    match file_read(&mut self.pending, answer, piece) {
-                        Ok(bytes) => Ok(ChannelGot::Pumped(bytes)),
-                        Err(cause) => Ok(ChannelGot::NotPumped(cause)),
-                    }
+                    pumped(file_read(&mut self.pending, answer, piece))
                 }
-                Err(ChannelFault::NoMemory) => Err(NoRoom {
-                    back: ChannelAsk::Pump,
-                }),
-                Err(cause) => Ok(ChannelGot::NotPumped(cause)),
             },
             ChannelAsk::Take(id) => Ok(ChannelGot::Taken(self.pending.take(id))),
-            ChannelAsk::Close => match self.link.take() {
-                Some(link) => {
-                    if self.pending.down().is_none() {
-                        self.pending.broke(Break::Closed);
-                    }
-                    Ok(ChannelGot::Closed(Some(link.retire())))
+            ChannelAsk::Close => {
+                let Some(link) = self.link.take() else {
+                    return Ok(ChannelGot::Closed(None));
+                };
+                if self.pending.down().is_none() {
+                    self.pending.broke(Break::Closed);
                 }
-                None => Ok(ChannelGot::Closed(None)),
-            },
+                Ok(ChannelGot::Closed(Some(link.retire())))
+            }
         }
     }
+
+    ghost stands_runs = { λ channel start pairs s. stands_run s };
+
+    ghost runs_prefix = { λ start pairs more r. runs_front start pairs more r };
 }

@@ -1,21 +1,71 @@
 //! What a channel does with its link, step by step: each step knows a source's answer or a sink alone.
 
-ghost use Rattle.std.specs.Prelude.{◌≡◌, ◌<◌, ◌≤◌, length, None, Ok, IfOk, IfErr, OnOk, OnErr};
-ghost use Rattle.ig_client.specs.PendingState.{broken, next_read};
-ghost use Rattle.ig_client.specs.Steps.{Sends, TakesRoom, Files, may_hold};
+ghost use Rattle.std.specs.Prelude.{◌≡◌, ◌≤◌, length, None};
+ghost use Rattle.ig_client.specs.Steps.{Submits, SameSource, Sends, LinkSends, TakesRoom, Files, may_hold};
+ghost use Rattle.ig_client.specs.RequestBodies.{IsSubmittable, request_body};
+ghost use Rattle.ig_parts.specs.PartsMessages.{ask_body as parts_body};
 
 use crate::fault::{Break, ChannelFault};
 use crate::pending::Pending;
-use ig_base::Octets;
+use ig_base::{Items, Octets};
+use ig_caches::Request;
 use ig_link::{Sink, TakeNow, send_all};
 use std::alloc::Global;
+
+/// Offers the request and writes its frame. Answers its identifier.
+pub(crate) fn submit_over<K: Sink>(
+    alloc: Global,
+    pending: &mut Pending,
+    link: &mut Option<K>,
+    ask: &Request,
+) -> Result<i64, ChannelFault>
+    requires { IsSubmittable ask.now }
+    ensures { Submits K.sink (λ id. request_body id ask.now) pending.old pending.new link.old link.new result }
+    ensures beside { SameSource K.source_beside link.old link.new }
+{
+    let mut frame = Octets::empty(alloc);
+    let id = pending.offer(ask, &mut frame)?;
+    send_frame(pending, link, id, frame.as_slice())
+}
+
+/// The same of a request for partition maps.
+pub(crate) fn submit_parts_over<K: Sink>(
+    alloc: Global,
+    pending: &mut Pending,
+    link: &mut Option<K>,
+    caches: &Items<i32>,
+) -> Result<i64, ChannelFault>
+    ensures { Submits K.sink (λ id. parts_body id caches.now) pending.old pending.new link.old link.new result }
+    ensures beside { SameSource K.source_beside link.old link.new }
+{
+    let mut frame = Octets::empty(alloc);
+    let id = pending.offer_parts(caches, &mut frame)?;
+    send_frame(pending, link, id, frame.as_slice())
+}
+
+/// Writes the frame of a call that was offered to the link, which is there until the channel was closed.
+fn send_frame<K: Sink>(
+    pending: &mut Pending,
+    link: &mut Option<K>,
+    id: i64,
+    frame: &[u8],
+) -> Result<i64, ChannelFault>
+    requires { pending.old.down ≡ None }
+    ensures { LinkSends K.sink id frame.now pending.old pending.new link.old link.new result }
+    ensures beside { SameSource K.source_beside link.old link.new }
+{
+    match link {
+        Some(sink) => write_frame(pending, sink, id, frame),
+        None => Err(ChannelFault::Down(Break::Closed)),
+    }
+}
 
 /// Writes the frame of a call that was offered, and answers its identifier.
 ///
 /// # Errors
 ///
 /// [`ChannelFault::Broke`] with [`Break::WriteFault`] if a write fails; the channel is broken then.
-pub(crate) fn send_frame<K: Sink>(
+fn write_frame<K: Sink>(
     pending: &mut Pending,
     sink: &mut K,
     id: i64,
