@@ -1,8 +1,8 @@
 -- What a channel may have been asked and answered since its start.
-use Rattle.std.specs.Prelude.{◌≡◌, ℕ, ◌+◌, ◌-◌, ◌<◌, ◌⊎◌, ℤ, Bool, true, false, List, [], ◌∷◌, ◌++◌, length, nat_le, ◌&&◌, Option, None, Some, Result, Ok, Err, IsOk, if◌then◌else◌}
+use Rattle.std.specs.Prelude.{◌≡◌, ℕ, ◌-◌, ◌^◌, ◌<◌, ℤ, true, false, List, [], ◌∷◌, ◌++◌, length, min, Option, None, Some, Result, Ok, Err, IsOk, if◌then◌else◌}
 use Rattle.std.specs.Option.{option_map}
 use Rattle.std.specs.List.{flat_map, find}
-use Rattle.ig_base.specs.Frames.{Frame, Front, Bad, front, max_body, HasNoFrame}
+use Rattle.ig_base.specs.Frames.{Frame, Front, Bad, front, max_body}
 use Rattle.ig_link.specs.declared.link.Retired.{Retired}
 use Rattle.ig_wire.specs.Versions.{server_side}
 use Rattle.ig_client.specs.PendingState.{next_after, offered, id_of}
@@ -56,6 +56,11 @@ Submits start last ps asks (Err (fault.Broke WriteFault)) =
     IsOk (outcome start last ps asks) × (start.writes_hold ≡ false)
 Submits start last ps asks (Err cause) = outcome start last ps asks ≡ Err cause
 
+-- the bytes are the first of those that the link had to give, where it told them
+abbrev pub IsGiven : Option (List ℕ) → List ℕ → Type 0
+IsGiven None bytes = Unit {0}
+IsGiven (Some left) bytes = (rest : List ℕ) × (left ≡ bytes ++ rest)
+
 -- with more bytes of the stream all frames were asked for
 abbrev pub AllAsked : ℕ → Cutting → Type 0
 AllAsked n c = asked n c.bodies ≡ c.bodies
@@ -75,8 +80,9 @@ PumpBreaks start last ps PeerEnded = start.reads_hold ≡ true → start.left �
 PumpBreaks start last ps (BadFrame place n) =
     let c = cut (least_of start) (pumped ps ++ last) in
     AllAsked (sent ps) c × (front (least_of start) max_body c.rest ≡ Bad n)
-    × (place ≡ length (flat_map Frame c.bodies))
-PumpBreaks start last ps (Unasked id) = IsUnasked (sent ps) (cut (least_of start) (pumped ps ++ last)) id
+    × (place ≡ min (length (flat_map Frame c.bodies)) (2 ^ 64 - 1)) × IsGiven start.left (pumped ps ++ last)
+PumpBreaks start last ps (Unasked id) =
+    IsUnasked (sent ps) (cut (least_of start) (pumped ps ++ last)) id × IsGiven start.left (pumped ps ++ last)
 PumpBreaks start last ps WriteFault = ⊥
 PumpBreaks start last ps Closed = ⊥
 
@@ -84,7 +90,7 @@ abbrev pub Pumps : ChannelStart → List ℕ → List Pair → Result (List ℕ)
 Pumps start last ps (Ok bytes) =
     let c = cut (least_of start) (pumped ps ++ bytes) in
     (first_break ps ≡ None) × (pending start last ps ≡ 0 → bytes ≡ []) × AllAsked (sent ps) c
-    × IsNotBad (front (least_of start) max_body c.rest) where
+    × IsNotBad (front (least_of start) max_body c.rest) × IsGiven start.left (pumped ps ++ bytes) where
       IsNotBad : Front → Type 0
       IsNotBad (Bad n) = ⊥
       IsNotBad _ = Unit {0}
@@ -117,17 +123,11 @@ EachFollows start last before [] = Unit {0}
 EachFollows start last before (p ∷ ps) =
     MayFollow start last before p.0 p.1 × EachFollows start last (before ++ p ∷ []) ps
 
--- the bytes are the first of those that the link had to give, where it told them
-abbrev pub IsGiven : Option (List ℕ) → List ℕ → Type 0
-IsGiven None bytes = Unit {0}
-IsGiven (Some left) bytes = (rest : List ℕ) × (left ≡ bytes ++ rest)
-
 -- The pairs are what a channel with this start may have been asked and answered, over a link that gave these
--- bytes after the reply to the hello.
+-- bytes after the reply to the hello: the first of those that it had to give, where it told them.
 pub record ChannelRun (start : ChannelStart) (bytes : List ℕ) (pairs : List Pair) : Type 0 where
   pub last : List ℕ
   pub given_are : bytes ≡ given last pairs
-  pub there : IsGiven start.left bytes
   pub each : EachFollows start last [] pairs
 
 -- the pairs are so over some bytes

@@ -6,6 +6,7 @@ pub mod Cutting
 pub mod Pairs
 pub mod LinkSince
 pub mod ChannelRun
+pub mod RunLaws
 pub mod Stands
 pub mod Steps
 pub mod Greeted

@@ -66,7 +66,7 @@ impl<L: Link> Plain for Channel<L> {
     ghost use Rattle.ig_client.specs.Plain.{got_data, CanAsk, IsSure, any_start};
     ghost use Rattle.ig_client.specs.ChannelRun.{Runs};
     ghost use Rattle.ig_client.specs.Stands.{ChannelStands, start_of};
-    ghost use Rattle.ig_client.proofs.RunLemmas.{stands_run, runs_front};
+    ghost use Rattle.ig_client.specs.RunLaws.{runs_front};
 
     type Ask = ChannelAsk;
 
@@ -130,7 +130,7 @@ impl<L: Link> Plain for Channel<L> {
         }
     }
 
-    ghost stands_runs = { λ channel start pairs s. stands_run s };
+    ghost stands_runs = { λ channel start pairs s. (s.bytes, s.run) };
 
     ghost runs_prefix = { λ start pairs more r. runs_front start pairs more r };
 }
