@@ -27,7 +27,7 @@ pub removed_at : (es fs : List (ℤ × Option (List ℕ))) (key id : ℤ) → ke
     → map_of fs ≡ remove (map_of es) id
 removed_at es fs key id is updates =
     same_map int_cmp_total exact_signed (map_of fs) (remove (map_of es) key) (λ q.
-        get_entries int_cmp int_cmp_total fs q ∙ updates q
-        ∙ ap (λ b. cond b None (lookup (is_at (int_cmp q)) es)) ((eq_by_cmp_equiv int_cmp_total).symm key q)
-        ∙ sym (get-remove int_cmp_total (map_of es) key q ∙ ap (cond (is_at (int_cmp q) key) None) (get_entries int_cmp int_cmp_total es q)))
+    get_entries int_cmp int_cmp_total fs q ∙ updates q
+    ∙ ap (λ b. cond b None (lookup (is_at (int_cmp q)) es)) ((eq_by_cmp_equiv int_cmp_total).symm key q)
+    ∙ sym (get-remove int_cmp_total (map_of es) key q ∙ ap (cond (is_at (int_cmp q) key) None) (get_entries int_cmp int_cmp_total es q)))
     ∙ ap (remove (map_of es)) is

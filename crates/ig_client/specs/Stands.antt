@@ -44,17 +44,19 @@ pub record LinkIs (start : ChannelStart) (bytes : List ℕ) (ps : List Pair) (so
   pub reads_hold : start.reads_hold ≡ true → source.holds ≡ true
   pub writes_hold : start.writes_hold ≡ true → sink.holds ≡ true
 
+-- a link that is there is as the pairs say, and it is there until the channel was closed
+abbrev pub LinkStands : {L : Type 0} → (L → SourceState) → (L → SinkState) → ChannelStart → List ℕ → List Pair → Option L → Type 0
+LinkStands source sink start bytes ps (Some link) =
+    (was_closed ps ≡ false) × LinkIs start bytes ps (source link) (sink link)
+LinkStands source sink start bytes ps None = was_closed ps ≡ true
+
 -- The channel without its link, and the link until it was closed, stand for this start and these pairs.
 -- `source` and `sink` say what the link is seen as.
 pub record ChannelStands {L : Type 0} (source : L → SourceState) (sink : L → SinkState) (c : PendingState) (link : Option L) (start : ChannelStart) (ps : List Pair) : Type 0 where
   pub bytes : List ℕ
   pub run : ChannelRun start bytes ps
   pub keeps : Keeps start run.last ps c
-  pub link_is : LinkStands link
-  where
-    LinkStands : Option L → Type 0
-    LinkStands (Some l) = (was_closed ps ≡ false) × LinkIs start bytes ps (source l) (sink l)
-    LinkStands None = was_closed ps ≡ true
+  pub link_is : LinkStands source sink start bytes ps link
 
 -- the start of a channel of this version over a link in this state
 abbrev pub start_with : Version → SourceState → SinkState → ChannelStart

@@ -27,7 +27,10 @@ pub enum ChannelGot<A> {
     /// The request was sent under this identifier.
     Sent(i64),
     /// It was refused, and comes back.
-    NotSent { ask: Request, cause: ChannelFault },
+    NotSent {
+        ask: Request,
+        cause: ChannelFault,
+    },
     /// The request for partition maps was refused, and comes back.
     NotSentParts {
         caches: Items<i32>,

@@ -48,11 +48,7 @@ pub(crate) fn greet<D: Duplex>(
 }
 
 /// The node that the reply to a hello names, if it accepts the hello.
-fn node_in(
-    alloc: Global,
-    version: Version,
-    body: &[u8],
-) -> Result<Option<NodeId>, HandshakeFault>
+fn node_in(alloc: Global, version: Version, body: &[u8]) -> Result<Option<NodeId>, HandshakeFault>
     ensures { Answered (hello_reply_of version body.now) body.now result }
 {
     match read_hello_reply(alloc, version, body) {

@@ -65,12 +65,7 @@ impl Pending {
 
     /// Adds a call whose frame was appended after the first `len` bytes; cuts the frame off again where
     /// there is no memory for the call.
-    fn add_or_cut(
-        &mut self,
-        id: i64,
-        out: &mut Octets,
-        len: usize,
-    ) -> Result<i64, ChannelFault>
+    fn add_or_cut(&mut self, id: i64, out: &mut Octets, len: usize) -> Result<i64, ChannelFault>
         requires { next_id self.old ≡ Ok id }
         ensures ok { IfOk result (λ given. (given ≡ id) × (self.new ≡ with_call self.old)
             × (out.new ≡ out.old)) }

@@ -154,11 +154,7 @@ impl Pending {
             Front::Missing(count) => count,
             _ => 0,
         };
-        let room = if missing < PIECE {
-            missing
-        } else {
-            PIECE
-        };
+        let room = if missing < PIECE { missing } else { PIECE };
         self.part.reserve(room)?;
         self.room = room;
         Ok(room)

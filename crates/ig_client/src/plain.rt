@@ -48,9 +48,7 @@ fn submitted_parts<A>(
 }
 
 /// The answer to a pump.
-fn pumped<A>(
-    answer: Result<Octets, ChannelFault>,
-) -> Result<ChannelGot<A>, NoRoom<ChannelAsk>>
+fn pumped<A>(answer: Result<Octets, ChannelFault>) -> Result<ChannelGot<A>, NoRoom<ChannelAsk>>
     ensures { result ≡ pump_got answer }
 {
     match answer {

@@ -89,10 +89,7 @@ fn write_frame<K: Sink>(
 /// # Errors
 ///
 /// [`ChannelFault::Down`] if the channel broke, and [`ChannelFault::NoMemory`] if memory runs out.
-pub(crate) fn next_piece(
-    alloc: Global,
-    pending: &mut Pending,
-) -> Result<Vec<u8>, ChannelFault>
+pub(crate) fn next_piece(alloc: Global, pending: &mut Pending) -> Result<Vec<u8>, ChannelFault>
     ensures { TakesRoom pending.old pending.new result }
 {
     if let Some(cause) = pending.down() {

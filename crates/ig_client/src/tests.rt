@@ -84,7 +84,11 @@ static ROWS: [(&[Read], &[WriteStep], &[Step]); 8] = [
     ),
     // A reply to a call that isn't pending: it was never made, or was answered before.
     (
-        &[Read::Bytes(ACCEPTED), Read::Bytes(DONE_1), Read::Bytes(DONE_9)],
+        &[
+            Read::Bytes(ACCEPTED),
+            Read::Bytes(DONE_1),
+            Read::Bytes(DONE_9),
+        ],
         &[],
         &[
             Step::Submit(Ok(1)),
@@ -98,7 +102,11 @@ static ROWS: [(&[Read], &[WriteStep], &[Step]); 8] = [
         ],
     ),
     (
-        &[Read::Bytes(ACCEPTED), Read::Bytes(DONE_1), Read::Bytes(DONE_1)],
+        &[
+            Read::Bytes(ACCEPTED),
+            Read::Bytes(DONE_1),
+            Read::Bytes(DONE_1),
+        ],
         &[],
         &[
             Step::Submit(Ok(1)),
@@ -123,7 +131,11 @@ static ROWS: [(&[Read], &[WriteStep], &[Step]); 8] = [
         ],
     ),
     (
-        &[Read::Bytes(ACCEPTED), Read::Bytes(DONE_1), Read::Bytes(LONG)],
+        &[
+            Read::Bytes(ACCEPTED),
+            Read::Bytes(DONE_1),
+            Read::Bytes(LONG),
+        ],
         &[],
         &[
             Step::Submit(Ok(1)),
@@ -160,7 +172,11 @@ static ROWS: [(&[Read], &[WriteStep], &[Step]); 8] = [
     ),
     (
         &[Read::Bytes(ACCEPTED), Read::Bytes(DONE_1)],
-        &[WriteStep::AtMost(12), WriteStep::AtMost(5), WriteStep::Fault],
+        &[
+            WriteStep::AtMost(12),
+            WriteStep::AtMost(5),
+            WriteStep::Fault,
+        ],
         &[
             Step::Submit(Err(ChannelFault::Broke(Break::WriteFault))),
             Step::Submit(Err(ChannelFault::Down(Break::WriteFault))),
@@ -184,12 +200,7 @@ fn link(alloc: Global, reads: &[Read], writes: &[WriteStep]) -> Result<MemLink, 
             Read::Fault => ReadStep::Fault,
         })?;
     }
-    Ok(MemLink::new(
-        alloc,
-        steps,
-        Vec::from_slice(alloc, writes)?,
-        1 << 16,
-    )?)
+    Ok(MemLink::new(alloc, steps, Vec::from_slice(alloc, writes)?, 1 << 16)?)
 }
 
 fn put() -> Request {
@@ -283,7 +294,11 @@ static HANDSHAKES: [(Version, bool, &[Read], &[WriteStep], Ended); 10] = [
     (
         Version::V1_1_0,
         false,
-        &[Read::Bytes(&[1]), Read::Bytes(&[0, 0, 0]), Read::Bytes(&[1])],
+        &[
+            Read::Bytes(&[1]),
+            Read::Bytes(&[0, 0, 0]),
+            Read::Bytes(&[1]),
+        ],
         &[],
         Ended::Accepted(false),
     ),
@@ -306,9 +321,7 @@ static HANDSHAKES: [(Version, bool, &[Read], &[WriteStep], Ended); 10] = [
     (
         Version::V1_1_0,
         false,
-        &[Read::Bytes(&[
-            13, 0, 0, 0, 0, 1, 0, 0, 0, 0, 0, 9, 1, 0, 0, 0, 97,
-        ])],
+        &[Read::Bytes(&[13, 0, 0, 0, 0, 1, 0, 0, 0, 0, 0, 9, 1, 0, 0, 0, 97])],
         &[],
         Ended::Refused,
     ),
@@ -391,7 +404,11 @@ fn submit_all(channel: &mut Channel<MemLink>) -> (u32, Option<ChannelFault>) {
 
 #[test]
 fn as_many_calls_are_pending_as_may_be(rt: HostRuntime) -> Result<(), Fail> {
-    let link = link(rt.alloc(), &[Read::Bytes(ACCEPTED), Read::Bytes(DONE_2)], &[])?;
+    let link = link(
+        rt.alloc(),
+        &[Read::Bytes(ACCEPTED), Read::Bytes(DONE_2)],
+        &[],
+    )?;
     let Ok(mut channel) = Channel::start(rt.alloc(), link, Version::V1_0_0, None) else {
         return Err("not started".into());
     };
