@@ -1,16 +1,16 @@
 -- What a channel stands for: its start, and what it was asked and answered since.
-use Rattle.std.specs.Prelude.{◌≡◌, ℕ, ℤ, true, false, List, [], ◌∷◌, ◌++◌, Option, None, Some, Result, Ok, Err, if◌then◌else◌}
+use Rattle.std.specs.Prelude.{◌≡◌, ℕ, ◌-◌, ◌^◌, ℤ, true, false, List, [], ◌∷◌, ◌++◌, length, min, Option, None, Some, Result, Ok, Err, if◌then◌else◌}
 use Rattle.std.specs.Io.KnownBytes.{Consumes}
 use Rattle.std.specs.FinMap as map
-use Rattle.std.specs.List.{find}
+use Rattle.std.specs.List.{find, flat_map}
 use Rattle.ig_base.specs.Frames.{Frame}
 use Rattle.ig_link.specs.States.{SourceState, SinkState}
 use Rattle.ig_wire.specs.declared.version.Version.{Version}
-use Rattle.ig_client.specs.PendingState.{PendingState}
+use Rattle.ig_client.specs.PendingState.{PendingState, reply_to}
 use Rattle.ig_client.specs.Cutting.{cut, is_pending, has_id}
-use Rattle.ig_client.specs.Pairs.{Pair, GotData, sent, first_break, was_taken, was_closed}
+use Rattle.ig_client.specs.Pairs.{Pair, GotData, sent, pumped, first_break, was_taken, was_closed}
 use Rattle.ig_client.specs.LinkSince.{ShownSince, shown_of}
-use Rattle.ig_client.specs.ChannelRun.{ChannelRun, least_of, given, filed_bodies, pending}
+use Rattle.ig_client.specs.ChannelRun.{ChannelRun, least_of, filed_bodies, pending, reply_to as taken_next}
 use Rattle.ig_client.specs.Plain.{any_start}
 use Rattle.ig_client.specs.declared.fault.ChannelFault.{ChannelFault}
 use Rattle.ig_client.specs.declared.fault.ChannelFault.TheVariants as fault
@@ -27,14 +27,18 @@ kept_of start last ps id =
       reply_or (Some body) = Some (Some (Frame body))
       reply_or None = if is_pending (sent ps) [] id then Some None else None
 
--- what the channel without its link keeps, after these pairs
+-- What the channel without its link keeps, after these pairs: all replies that weren't taken, and until it
+-- broke the calls that are pending and the bytes after the last frame. A submit that a write fault broke may
+-- have left a call that no reply will come to.
 pub record Keeps (start : ChannelStart) (last : List ℕ) (ps : List Pair) (c : PendingState) : Type 0 where
   pub least : c.least ≡ least_of start
-  pub last_is : c.last ≡ sent ps
-  pub waiting : c.waiting ≡ pending start last ps
-  pub replies : (id : ℤ) → map.get c.replies id ≡ kept_of start last ps id
   pub down : c.down ≡ first_break ps
-  pub part : first_break ps ≡ None → c.part ≡ (cut (least_of start) (given last ps)).rest
+  pub replies : (id : ℤ) → reply_to id c ≡ taken_next start last ps id
+  pub last_is : first_break ps ≡ None → c.last ≡ sent ps
+  pub waiting : first_break ps ≡ None → c.waiting ≡ pending start last ps
+  pub calls : first_break ps ≡ None → (id : ℤ) → map.get c.replies id ≡ kept_of start last ps id
+  pub place : first_break ps ≡ None → c.place ≡ min (length (flat_map Frame (cut (least_of start) (pumped ps)).bodies)) (2 ^ 64 - 1)
+  pub part : first_break ps ≡ None → c.part ≡ (cut (least_of start) (pumped ps)).rest
 
 -- the link as it now is, until the channel was closed
 pub record LinkIs (start : ChannelStart) (bytes : List ℕ) (ps : List Pair) (source : SourceState) (sink : SinkState) : Type 0 where

@@ -173,6 +173,7 @@ impl Pending {
         ensures new { self.new ≡ filed piece.now self.old }
         ensures answer { result ≡ unless_broken (filed piece.now self.old).down }
     {
+        frame_is_read();
         let _ = self.part.extend_from_slice(piece);
         self.room = 0;
         match front_of(self.part.as_slice(), self.least) {
