@@ -39,8 +39,8 @@ abbrev pub pending : ChannelStart → List ℕ → List Pair → ℕ
 pending start last ps = sent ps - length (filed_bodies start last ps)
 
 -- the frame of the reply to a call, if it came and wasn't taken
-abbrev pub reply_to : ChannelStart → List ℕ → List Pair → ℤ → Option (List ℕ)
-reply_to start last ps id =
+abbrev pub reply_left : ChannelStart → List ℕ → List Pair → ℤ → Option (List ℕ)
+reply_left start last ps id =
     if was_taken id ps then None else option_map Frame (find (has_id id) (filed_bodies start last ps))
 
 -- ---- what the next pair may be after these
@@ -113,7 +113,7 @@ MayFollow start last ps (ask.SubmitParts caches) (got.NotSentParts back cause) =
     (back ≡ caches) × Submits start last ps (ask.SubmitParts caches) (Err cause)
 MayFollow start last ps ask.Pump (got.Pumped bytes) = Pumps start last ps (Ok bytes)
 MayFollow start last ps ask.Pump (got.NotPumped cause) = Pumps start last ps (Err cause)
-MayFollow start last ps (ask.Take id) (got.Taken reply) = reply ≡ reply_to start last ps id
+MayFollow start last ps (ask.Take id) (got.Taken reply) = reply ≡ reply_left start last ps id
 MayFollow start last ps ask.Close (got.Closed retired) = Closes start last ps retired
 MayFollow start last ps _ _ = ⊥
 

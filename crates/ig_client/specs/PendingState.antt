@@ -60,9 +60,9 @@ no_calls least = record {
 abbrev pub last_id : ℕ
 last_id = 2 ^ 63 - 1
 
--- The identifier of the next call of a channel that broke in this way, or didn't, that gave this many
--- identifiers, and of which so many calls are pending. Else: it broke before; all identifiers were
--- used; as many calls are pending as may be.
+-- The identifier of the next call of a channel that broke, if it did, gave `last` identifiers, and has
+-- `waiting` pending calls. Or why there is none: it broke before; all identifiers were used; as many calls
+-- are pending as may be.
 abbrev pub next_after : Option Break → ℕ → ℕ → Result ℤ ChannelFault
 next_after (Some cause) last waiting = Err (fault.Down cause)
 next_after None last waiting =

@@ -10,7 +10,7 @@ use Rattle.ig_client.specs.PendingState.{PendingState, reply_to}
 use Rattle.ig_client.specs.Cutting.{cut, is_pending, has_id}
 use Rattle.ig_client.specs.Pairs.{Pair, GotData, sent, pumped, first_break, was_taken, was_closed}
 use Rattle.ig_client.specs.LinkSince.{ShownSince, shown_of}
-use Rattle.ig_client.specs.ChannelRun.{ChannelRun, least_of, filed_bodies, pending, reply_to as taken_next}
+use Rattle.ig_client.specs.ChannelRun.{ChannelRun, least_of, filed_bodies, pending, reply_left}
 use Rattle.ig_client.specs.Plain.{any_start}
 use Rattle.ig_client.specs.declared.fault.ChannelFault.{ChannelFault}
 use Rattle.ig_client.specs.declared.fault.ChannelFault.TheVariants as fault
@@ -33,7 +33,7 @@ kept_of start last ps id =
 pub record Keeps (start : ChannelStart) (last : List ℕ) (ps : List Pair) (c : PendingState) : Type 0 where
   pub least : c.least ≡ least_of start
   pub down : c.down ≡ first_break ps
-  pub replies : (id : ℤ) → reply_to id c ≡ taken_next start last ps id
+  pub replies : (id : ℤ) → reply_to id c ≡ reply_left start last ps id
   pub last_is : first_break ps ≡ None → c.last ≡ sent ps
   pub waiting : first_break ps ≡ None → c.waiting ≡ pending start last ps
   pub calls : first_break ps ≡ None → (id : ℤ) → map.get c.replies id ≡ kept_of start last ps id

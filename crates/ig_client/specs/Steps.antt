@@ -49,9 +49,9 @@ TakesRoom old new (Err (Down cause)) = (old.down ≡ Some cause) × (new ≡ old
 TakesRoom old new (Err NoMemory) = (old.down ≡ None) × (1 ≤ old.waiting) × ((new ≡ old) ⊎ (new ≡ with_room old))
 TakesRoom old new (Err _) = ⊥
 
-abbrev pub may_hold : TakeNow → List ℕ → Type 0
-may_hold (now.Bytes n) piece = n ≤ length piece
-may_hold _ piece = Unit {0}
+abbrev pub MayHold : TakeNow → List ℕ → Type 0
+MayHold (now.Bytes n) piece = n ≤ length piece
+MayHold _ piece = Unit {0}
 
 -- the bytes that were taken are filed; nothing was there yet; the link ended; the read failed
 abbrev pub Files : TakeNow → List ℕ → PendingState → PendingState → Result (List ℕ) ChannelFault → Type 0

@@ -1,7 +1,7 @@
 //! What a channel does with its link, step by step: each step knows a source's answer or a sink alone.
 
 ghost use Rattle.std.specs.Prelude.{◌≡◌, ◌≤◌, length, None};
-ghost use Rattle.ig_client.specs.Steps.{Submits, SameSource, Sends, LinkSends, TakesRoom, Files, may_hold};
+ghost use Rattle.ig_client.specs.Steps.{Submits, SameSource, Sends, LinkSends, TakesRoom, Files, MayHold};
 ghost use Rattle.ig_client.specs.RequestBodies.{IsSubmittable, request_body};
 ghost use Rattle.ig_parts.specs.PartsMessages.{ask_body as parts_body};
 
@@ -117,7 +117,7 @@ pub(crate) fn file_read(
 ) -> Result<Octets, ChannelFault>
     requires up { pending.old.down ≡ None }
     requires fits { length piece.items ≤ pending.old.room }
-    requires taken { may_hold answer piece.items }
+    requires taken { MayHold answer piece.items }
     ensures { Files answer piece.items pending.old pending.new result }
 {
     let mut piece = piece;
