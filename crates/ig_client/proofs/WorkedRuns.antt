@@ -7,7 +7,7 @@ use Rattle.ig_wire.specs.Versions.{version_1_0}
 use Rattle.ig_caches.specs.declared.request.Request.TheVariants as request
 use Rattle.ig_client.specs.Cutting.{cut, asked}
 use Rattle.ig_client.specs.Pairs.{Pair}
-use Rattle.ig_client.specs.ChannelRun.{outcome, pending, reply_left, AllAsked}
+use Rattle.ig_client.specs.ChannelRun.{given, outcome, pending, reply_left, AllAsked}
 use Rattle.ig_client.specs.declared.fault.Break.TheVariants.{ReadFault}
 use Rattle.ig_client.specs.declared.fault.ChannelFault.TheVariants.{Down, Broke}
 use Rattle.ig_client.specs.declared.ask.ChannelAsk.{ChannelAsk}
@@ -62,15 +62,15 @@ pub all_asked : AllAsked 3 (cut 12 (reply_frame 3 ++ reply_frame 1 ++ reply_fram
 unfolding front
 all_asked = refl
 
-pub none_pending : pending start [] answered ≡ 0
+pub none_pending : pending start (given [] answered) answered ≡ 0
 unfolding front
 none_pending = refl
 
-pub its_reply : reply_left start [] answered (pos 2) ≡ Some (reply_frame 2)
+pub its_reply : reply_left start (given [] answered) answered (pos 2) ≡ Some (reply_frame 2)
 unfolding LE front Frame
 its_reply = refl
 
-pub given_once : reply_left start [] (answered ++ (ask.Take (pos 2), got.Taken (Some (reply_frame 2))) ∷ []) (pos 2) ≡ None
+pub given_once : reply_left start (given [] answered) (answered ++ (ask.Take (pos 2), got.Taken (Some (reply_frame 2))) ∷ []) (pos 2) ≡ None
 unfolding front
 given_once = refl
 

@@ -30,31 +30,31 @@ least_of start = (server_side start.version).later
 abbrev pub given : List ℕ → List Pair → List ℕ
 given last ps = if is_of_frames (first_break ps) then pumped ps ++ last else pumped ps
 
--- the frames that were filed: those that were asked for, up to the first that wasn't
+-- the frames that were filed of these bytes: those that were asked for, up to the first that wasn't
 abbrev pub filed_bodies : ChannelStart → List ℕ → List Pair → List (List ℕ)
-filed_bodies start last ps = asked (sent ps) (cut (least_of start) (given last ps)).bodies
+filed_bodies start bytes ps = asked (sent ps) (cut (least_of start) bytes).bodies
 
 -- how many calls are pending: submitted, and without a frame so far
 abbrev pub pending : ChannelStart → List ℕ → List Pair → ℕ
-pending start last ps = sent ps - length (filed_bodies start last ps)
+pending start bytes ps = sent ps - length (filed_bodies start bytes ps)
 
 -- the frame of the reply to a call, if it came and wasn't taken
 abbrev pub reply_left : ChannelStart → List ℕ → List Pair → ℤ → Option (List ℕ)
-reply_left start last ps id =
-    if was_taken id ps then None else option_map Frame (find (has_id id) (filed_bodies start last ps))
+reply_left start bytes ps id =
+    if was_taken id ps then None else option_map Frame (find (has_id id) (filed_bodies start bytes ps))
 
--- ---- what the next pair may be after these
+-- ---- what the next pair may be, after these pairs and over these bytes
 
 -- the identifier of a submit, or why it is refused before its frame is written
 abbrev pub outcome : ChannelStart → List ℕ → List Pair → ChannelAsk → Result ℤ ChannelFault
-outcome start last ps asks =
-    offered (body_of asks) (next_after (first_break ps) (sent ps) (pending start last ps))
+outcome start bytes ps asks =
+    offered (body_of asks) (next_after (first_break ps) (sent ps) (pending start bytes ps))
 
 abbrev pub Submits : ChannelStart → List ℕ → List Pair → ChannelAsk → Result ℤ ChannelFault → Type 0
-Submits start last ps asks (Ok id) = outcome start last ps asks ≡ Ok id
-Submits start last ps asks (Err (fault.Broke WriteFault)) =
-    IsOk (outcome start last ps asks) × (start.writes_hold ≡ false)
-Submits start last ps asks (Err cause) = outcome start last ps asks ≡ Err cause
+Submits start bytes ps asks (Ok id) = outcome start bytes ps asks ≡ Ok id
+Submits start bytes ps asks (Err (fault.Broke WriteFault)) =
+    IsOk (outcome start bytes ps asks) × (start.writes_hold ≡ false)
+Submits start bytes ps asks (Err cause) = outcome start bytes ps asks ≡ Err cause
 
 -- the bytes are the first of those that the link had to give, where it told them
 abbrev pub IsGiven : Option (List ℕ) → List ℕ → Type 0
@@ -72,7 +72,7 @@ IsUnasked n c id =
 
 -- a call is pending on a channel that isn't down
 abbrev pub Waits : ChannelStart → List ℕ → List Pair → Type 0
-Waits start last ps = (first_break ps ≡ None) × (0 < pending start last ps)
+Waits start bytes ps = (first_break ps ≡ None) × (0 < pending start bytes ps)
 
 abbrev pub PumpBreaks : ChannelStart → List ℕ → List Pair → Break → Type 0
 PumpBreaks start last ps ReadFault = start.reads_hold ≡ false
@@ -89,32 +89,32 @@ PumpBreaks start last ps Closed = ⊥
 abbrev pub Pumps : ChannelStart → List ℕ → List Pair → Result (List ℕ) ChannelFault → Type 0
 Pumps start last ps (Ok bytes) =
     let c = cut (least_of start) (pumped ps ++ bytes) in
-    (first_break ps ≡ None) × (pending start last ps ≡ 0 → bytes ≡ []) × AllAsked (sent ps) c
+    (first_break ps ≡ None) × (pending start (given last ps) ps ≡ 0 → bytes ≡ []) × AllAsked (sent ps) c
     × IsNotBad (front (least_of start) max_body c.rest) × IsGiven start.left (pumped ps ++ bytes) where
       IsNotBad : Front → Type 0
       IsNotBad (Bad n) = ⊥
       IsNotBad _ = Unit {0}
 Pumps start last ps (Err (fault.Down cause)) = first_break ps ≡ Some cause
-Pumps start last ps (Err (fault.Broke cause)) = Waits start last ps × PumpBreaks start last ps cause
+Pumps start last ps (Err (fault.Broke cause)) = Waits start (given last ps) ps × PumpBreaks start last ps cause
 Pumps start last ps (Err _) = ⊥
 
 abbrev pub Closes : ChannelStart → List ℕ → List Pair → Option Retired → Type 0
-Closes start last ps None = was_closed ps ≡ true
-Closes start last ps (Some shown) = (was_closed ps ≡ false) × ShownSince start shown (given last ps) ps
+Closes start bytes ps None = was_closed ps ≡ true
+Closes start bytes ps (Some shown) = (was_closed ps ≡ false) × ShownSince start shown bytes ps
 
 -- After these pairs the channel may answer this to an ask. `last` are the bytes that the pump took that
 -- broke the channel by them.
 abbrev pub MayFollow : ChannelStart → List ℕ → List Pair → ChannelAsk → GotData → Type 0
-MayFollow start last ps (ask.Submit request) (got.Sent id) = Submits start last ps (ask.Submit request) (Ok id)
+MayFollow start last ps (ask.Submit request) (got.Sent id) = Submits start (given last ps) ps (ask.Submit request) (Ok id)
 MayFollow start last ps (ask.Submit request) (got.NotSent back cause) =
-    (back ≡ request) × Submits start last ps (ask.Submit request) (Err cause)
-MayFollow start last ps (ask.SubmitParts caches) (got.Sent id) = Submits start last ps (ask.SubmitParts caches) (Ok id)
+    (back ≡ request) × Submits start (given last ps) ps (ask.Submit request) (Err cause)
+MayFollow start last ps (ask.SubmitParts caches) (got.Sent id) = Submits start (given last ps) ps (ask.SubmitParts caches) (Ok id)
 MayFollow start last ps (ask.SubmitParts caches) (got.NotSentParts back cause) =
-    (back ≡ caches) × Submits start last ps (ask.SubmitParts caches) (Err cause)
+    (back ≡ caches) × Submits start (given last ps) ps (ask.SubmitParts caches) (Err cause)
 MayFollow start last ps ask.Pump (got.Pumped bytes) = Pumps start last ps (Ok bytes)
 MayFollow start last ps ask.Pump (got.NotPumped cause) = Pumps start last ps (Err cause)
-MayFollow start last ps (ask.Take id) (got.Taken reply) = reply ≡ reply_left start last ps id
-MayFollow start last ps ask.Close (got.Closed retired) = Closes start last ps retired
+MayFollow start last ps (ask.Take id) (got.Taken reply) = reply ≡ reply_left start (given last ps) ps id
+MayFollow start last ps ask.Close (got.Closed retired) = Closes start (given last ps) ps retired
 MayFollow start last ps _ _ = ⊥
 
 -- each pair may follow those before it

@@ -8,7 +8,7 @@ use Rattle.ig_link.specs.States.{SourceState, SinkState}
 use Rattle.ig_wire.specs.declared.version.Version.{Version}
 use Rattle.ig_client.specs.PendingState.{PendingState, reply_to}
 use Rattle.ig_client.specs.Cutting.{cut, is_pending, has_id}
-use Rattle.ig_client.specs.Pairs.{Pair, GotData, sent, pumped, first_break, was_taken, was_closed}
+use Rattle.ig_client.specs.Pairs.{Pair, GotData, sent, first_break, was_taken, was_closed}
 use Rattle.ig_client.specs.LinkSince.{ShownSince, shown_of}
 use Rattle.ig_client.specs.ChannelRun.{ChannelRun, least_of, filed_bodies, pending, reply_left}
 use Rattle.ig_client.specs.Plain.{any_start}
@@ -21,8 +21,8 @@ use Rattle.ig_client.specs.declared.ask.ChannelStart.{ChannelStart}
 
 -- what is kept of a call: nothing if it wasn't made or its reply was taken, else the reply if it came
 abbrev pub kept_of : ChannelStart → List ℕ → List Pair → ℤ → Option (Option (List ℕ))
-kept_of start last ps id =
-    if was_taken id ps then None else reply_or (find (has_id id) (filed_bodies start last ps)) where
+kept_of start bytes ps id =
+    if was_taken id ps then None else reply_or (find (has_id id) (filed_bodies start bytes ps)) where
       reply_or : Option (List ℕ) → Option (Option (List ℕ))
       reply_or (Some body) = Some (Some (Frame body))
       reply_or None = if is_pending (sent ps) [] id then Some None else None
@@ -30,15 +30,15 @@ kept_of start last ps id =
 -- What the channel without its link keeps, after these pairs: all replies that weren't taken, and until it
 -- broke the calls that are pending and the bytes after the last frame. A submit that a write fault broke may
 -- have left a call that no reply will come to.
-pub record Keeps (start : ChannelStart) (last : List ℕ) (ps : List Pair) (c : PendingState) : Type 0 where
+pub record Keeps (start : ChannelStart) (bytes : List ℕ) (ps : List Pair) (c : PendingState) : Type 0 where
   pub least : c.least ≡ least_of start
   pub down : c.down ≡ first_break ps
-  pub replies : (id : ℤ) → reply_to id c ≡ reply_left start last ps id
+  pub replies : (id : ℤ) → reply_to id c ≡ reply_left start bytes ps id
   pub last_is : first_break ps ≡ None → c.last ≡ sent ps
-  pub waiting : first_break ps ≡ None → c.waiting ≡ pending start last ps
-  pub calls : first_break ps ≡ None → (id : ℤ) → map.get c.replies id ≡ kept_of start last ps id
-  pub place : first_break ps ≡ None → c.place ≡ min (length (flat_map Frame (cut (least_of start) (pumped ps)).bodies)) (2 ^ 64 - 1)
-  pub part : first_break ps ≡ None → c.part ≡ (cut (least_of start) (pumped ps)).rest
+  pub waiting : first_break ps ≡ None → c.waiting ≡ pending start bytes ps
+  pub calls : first_break ps ≡ None → (id : ℤ) → map.get c.replies id ≡ kept_of start bytes ps id
+  pub place : first_break ps ≡ None → c.place ≡ min (length (flat_map Frame (cut (least_of start) bytes).bodies)) (2 ^ 64 - 1)
+  pub part : first_break ps ≡ None → c.part ≡ (cut (least_of start) bytes).rest
 
 -- the link as it now is, until the channel was closed
 pub record LinkIs (start : ChannelStart) (bytes : List ℕ) (ps : List Pair) (source : SourceState) (sink : SinkState) : Type 0 where
@@ -59,7 +59,7 @@ LinkStands source sink start bytes ps None = was_closed ps ≡ true
 pub record ChannelStands {L : Type 0} (source : L → SourceState) (sink : L → SinkState) (c : PendingState) (link : Option L) (start : ChannelStart) (ps : List Pair) : Type 0 where
   pub bytes : List ℕ
   pub run : ChannelRun start bytes ps
-  pub keeps : Keeps start run.last ps c
+  pub keeps : Keeps start bytes ps c
   pub link_is : LinkStands source sink start bytes ps link
 
 -- the start of a channel of this version over a link in this state
