@@ -2,6 +2,7 @@
 use Rattle.std.specs.Prelude.{◌≡◌, ℕ, ◌+◌, ℤ, pos, Bool, true, false, not, ◌&&◌, int_lt, int_le, List, [], ◌∷◌, ◌++◌, if◌then◌else◌}
 use Rattle.std.specs.Ordering.{int_eq}
 use Rattle.std.specs.List.{fold, list_any}
+use Rattle.ig_base.specs.Numbers.{AreBytes}
 use Rattle.ig_base.specs.Frames.{Front, Body, Bad, Incomplete, front, max_body, Side, Cut}
 use Rattle.ig_client.specs.PendingState.{id_of}
 
@@ -33,7 +34,7 @@ replies_side least = record { first = least; later = least }
 
 -- it is the one cut of the stream into frames
 abbrev pub CutsRightly : Type 0
-CutsRightly = (least : ℕ) (bytes : List ℕ) → Cut (replies_side least) bytes (cut least bytes).bodies (cut least bytes).rest
+CutsRightly = (least : ℕ) (bytes : List ℕ) → AreBytes bytes → Cut (replies_side least) bytes (cut least bytes).bodies (cut least bytes).rest
 
 -- the body has this identifier
 abbrev pub has_id : ℤ → List ℕ → Bool

@@ -20,7 +20,7 @@ pub(crate) fn submit_over<K: Sink>(
     ask: &Request,
 ) -> Result<i64, ChannelFault>
     requires { IsSubmittable ask.now }
-    ensures { Submits K.sink (λ id. request_body id ask.now) pending.old pending.new link.old link.new result }
+    ensures submits { Submits K.sink (λ id. request_body id ask.now) pending.old pending.new link.old link.new result }
     ensures beside { SameSource K.source_beside link.old link.new }
 {
     let mut frame = Octets::empty(alloc);
@@ -35,7 +35,7 @@ pub(crate) fn submit_parts_over<K: Sink>(
     link: &mut Option<K>,
     caches: &Items<i32>,
 ) -> Result<i64, ChannelFault>
-    ensures { Submits K.sink (λ id. parts_body id caches.now) pending.old pending.new link.old link.new result }
+    ensures submits { Submits K.sink (λ id. parts_body id caches.now) pending.old pending.new link.old link.new result }
     ensures beside { SameSource K.source_beside link.old link.new }
 {
     let mut frame = Octets::empty(alloc);
@@ -51,7 +51,7 @@ fn send_frame<K: Sink>(
     frame: &[u8],
 ) -> Result<i64, ChannelFault>
     requires { pending.old.down ≡ None }
-    ensures { LinkSends K.sink id frame.now pending.old pending.new link.old link.new result }
+    ensures sends { LinkSends K.sink id frame.now pending.old pending.new link.old link.new result }
     ensures beside { SameSource K.source_beside link.old link.new }
 {
     match link {
