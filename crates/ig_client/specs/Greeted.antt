@@ -46,7 +46,7 @@ ReadsFrame old new (Err _) = ⊥
 
 -- this many more bytes were taken and stand after the others; or fewer, and a read failed, or the source
 -- ended, or memory ran out
-abbrev pub ReadsOn : ℕ → List ℕ → List ℕ → SourceState → SourceState → Result Unit HandshakeFault → Type 0
+abbrev pub ReadsOn : ℕ → List ℕ → List ℕ → SourceState → SourceState → Result (Unit {0}) HandshakeFault → Type 0
 ReadsOn count old new source source' (Ok _) =
     (bytes : List ℕ) × (new ≡ old ++ bytes) × (length bytes ≡ count) × SourceAdvances source source' bytes
 ReadsOn count old new source source' (Err (fault.Broke break.ReadFault)) =

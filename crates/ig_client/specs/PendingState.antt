@@ -151,7 +151,7 @@ abbrev pub filed : List ℕ → PendingState → PendingState
 filed piece c = with_front (front c.least max_body (c.part ++ piece)) (with_bytes piece c)
 
 -- how it broke, or nothing
-abbrev pub unless_broken : Option Break → Result Unit Break
+abbrev pub unless_broken : Option Break → Result (Unit {0}) Break
 unless_broken None = Ok tt
 unless_broken (Some cause) = Err cause
 

@@ -1,5 +1,5 @@
 -- What the steps of a channel leave of what contracts see, and what they say of its link.
-use Rattle.std.specs.Prelude.{◌≡◌, ◌⊎◌, ℕ, ◌≤◌, ℤ, List, [], length, take, Option, None, Some, Result, Ok, Err, Vec}
+use Rattle.std.specs.Prelude.{◌≡◌, ◌⊎◌, ℕ, ◌≤◌, ℤ, List, [], length, take, Option, None, Some, Result, Ok, Err}
 use Rattle.ig_link.specs.States.{SourceState, SinkState, SinkAdvances}
 use Rattle.ig_link.specs.WritesAs.{SentPart}
 use Rattle.ig_link.specs.declared.link.TakeNow.{TakeNow}
@@ -41,10 +41,10 @@ Submits sink body old new link link' answer =
     ⊎ ((id : ℤ) × (offered body (next_id old) ≡ Ok id) × LinkSends sink id (Frame (body id)) (with_call old) new link link' answer)
 
 -- room for the next read, if a call is pending; or the channel broke before, or memory ran out
-abbrev pub TakesRoom : PendingState → PendingState → Result (Vec ℕ) ChannelFault → Type 0
+abbrev pub TakesRoom : PendingState → PendingState → Result (List ℕ) ChannelFault → Type 0
 TakesRoom old new (Ok piece) =
-    (old.down ≡ None) × (((old.waiting ≡ 0) × (piece.items ≡ []) × (new ≡ old))
-    ⊎ ((1 ≤ old.waiting) × (length piece.items ≡ next_read old) × (1 ≤ length piece.items) × (new ≡ with_room old)))
+    (old.down ≡ None) × (((old.waiting ≡ 0) × (piece ≡ []) × (new ≡ old))
+    ⊎ ((1 ≤ old.waiting) × (length piece ≡ next_read old) × (1 ≤ length piece) × (new ≡ with_room old)))
 TakesRoom old new (Err (Down cause)) = (old.down ≡ Some cause) × (new ≡ old)
 TakesRoom old new (Err NoMemory) = (old.down ≡ None) × (1 ≤ old.waiting) × ((new ≡ old) ⊎ (new ≡ with_room old))
 TakesRoom old new (Err _) = ⊥

@@ -1,6 +1,6 @@
 //! The handshake: a client's hello, and the server's reply to it.
 
-ghost use Rattle.std.specs.Prelude.{◌≡◌, ◌≤◌, length};
+ghost use Rattle.std.specs.Prelude.{◌≡◌, ◌≤◌, length, Ok, Err, IfOk, IfErr};
 ghost use Rattle.std.specs.Option.{option_copied};
 ghost use Rattle.ig_base.specs.Frames.{max_body};
 ghost use Rattle.ig_wire.specs.Greets.{MayLogin, hello_bytes};
@@ -65,7 +65,10 @@ fn node_in(alloc: Global, version: Version, body: &[u8]) -> Result<Option<NodeId
 
 /// Reads the frame of the reply to a hello, and nothing of what follows it.
 fn read_frame<S: Source>(alloc: Global, source: &mut S) -> Result<Vec<u8>, HandshakeFault>
-    ensures reads { ReadsFrame (S.source source.old) (S.source source.new) result }
+    ensures ok { IfOk result (λ frame.
+        ReadsFrame (S.source source.old) (S.source source.new) (Ok frame.items)) }
+    ensures err { IfErr result (λ cause.
+        ReadsFrame (S.source source.old) (S.source source.new) (Err cause)) }
     ensures beside { S.sink_beside source.new ≡ S.sink_beside source.old }
 {
     let mut frame = Vec::new(alloc);

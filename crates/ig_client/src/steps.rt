@@ -1,6 +1,6 @@
 //! What a channel does with its link, step by step: each step knows a source's answer or a sink alone.
 
-ghost use Rattle.std.specs.Prelude.{◌≡◌, ◌≤◌, length, None};
+ghost use Rattle.std.specs.Prelude.{◌≡◌, ◌≤◌, length, None, Ok, Err, IfOk, IfErr};
 ghost use Rattle.ig_client.specs.Steps.{Submits, SameSource, Sends, LinkSends, TakesRoom, Files, MayHold};
 ghost use Rattle.ig_client.specs.RequestBodies.{IsSubmittable, request_body};
 ghost use Rattle.ig_parts.specs.PartsMessages.{ask_body as parts_body};
@@ -90,7 +90,8 @@ fn write_frame<K: Sink>(
 ///
 /// [`ChannelFault::Down`] if the channel broke, and [`ChannelFault::NoMemory`] if memory runs out.
 pub(crate) fn next_piece(alloc: Global, pending: &mut Pending) -> Result<Vec<u8>, ChannelFault>
-    ensures { TakesRoom pending.old pending.new result }
+    ensures ok { IfOk result (λ piece. TakesRoom pending.old pending.new (Ok piece.items)) }
+    ensures err { IfErr result (λ cause. TakesRoom pending.old pending.new (Err cause)) }
 {
     if let Some(cause) = pending.down() {
         return Err(ChannelFault::Down(cause));
