@@ -1,0 +1,4 @@
+pub mod CutLemmas
+pub mod PairLemmas
+pub mod ReplyLemmas
+mod WorkedRuns
