@@ -1,4 +1,11 @@
+pub mod BytesLemmas
 pub mod CutLemmas
 pub mod PairLemmas
+pub mod AskedLemmas
+pub mod KeepLemmas
+pub mod LinkLemmas
+pub mod StandLemmas
+pub mod SubmitLemmas
+pub mod PumpLemmas
 pub mod ReplyLemmas
 mod WorkedRuns

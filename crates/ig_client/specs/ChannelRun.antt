@@ -2,7 +2,7 @@
 use Rattle.std.specs.Prelude.{◌≡◌, ℕ, ◌-◌, ◌^◌, ◌<◌, ℤ, true, false, List, [], ◌∷◌, ◌++◌, length, min, Option, None, Some, Result, Ok, Err, IsOk, if◌then◌else◌}
 use Rattle.std.specs.Option.{option_map}
 use Rattle.std.specs.List.{flat_map, find}
-use Rattle.ig_base.specs.Frames.{Frame, Front, Bad, front, max_body}
+use Rattle.ig_base.specs.Frames.{Frame, Front, Body, Bad, Incomplete, front, max_body}
 use Rattle.ig_link.specs.declared.link.Retired.{Retired}
 use Rattle.ig_wire.specs.Versions.{server_side}
 use Rattle.ig_client.specs.PendingState.{next_after, offered, id_of}
@@ -38,10 +38,13 @@ filed_bodies start bytes ps = asked (sent ps) (cut (least_of start) bytes).bodie
 abbrev pub pending : ChannelStart → List ℕ → List Pair → ℕ
 pending start bytes ps = sent ps - length (filed_bodies start bytes ps)
 
+-- the frame of the reply to a call among these, unless it was taken
+abbrev pub reply_among : List (List ℕ) → Bool → ℤ → Option (List ℕ)
+reply_among bodies was id = if was then None else option_map Frame (find (has_id id) bodies)
+
 -- the frame of the reply to a call, if it came and wasn't taken
 abbrev pub reply_left : ChannelStart → List ℕ → List Pair → ℤ → Option (List ℕ)
-reply_left start bytes ps id =
-    if was_taken id ps then None else option_map Frame (find (has_id id) (filed_bodies start bytes ps))
+reply_left start bytes ps id = reply_among (filed_bodies start bytes ps) (was_taken id ps) id
 
 -- ---- what the next pair may be, after these pairs and over these bytes
 
@@ -86,14 +89,17 @@ PumpBreaks start last ps (Unasked id) =
 PumpBreaks start last ps WriteFault = ⊥
 PumpBreaks start last ps Closed = ⊥
 
+-- the bytes after the last frame don't begin with a length out of range
+abbrev pub IsNotBad : Front → Type 0
+IsNotBad (Body body rest) = Unit {0}
+IsNotBad (Bad n) = ⊥
+IsNotBad (Incomplete n) = Unit {0}
+
 abbrev pub Pumps : ChannelStart → List ℕ → List Pair → Result (List ℕ) ChannelFault → Type 0
 Pumps start last ps (Ok bytes) =
     let c = cut (least_of start) (pumped ps ++ bytes) in
     (first_break ps ≡ None) × (pending start (given last ps) ps ≡ 0 → bytes ≡ []) × AllAsked (sent ps) c
-    × IsNotBad (front (least_of start) max_body c.rest) × IsGiven start.left (pumped ps ++ bytes) where
-      IsNotBad : Front → Type 0
-      IsNotBad (Bad n) = ⊥
-      IsNotBad _ = Unit {0}
+    × IsNotBad (front (least_of start) max_body c.rest) × IsGiven start.left (pumped ps ++ bytes)
 Pumps start last ps (Err (fault.Down cause)) = first_break ps ≡ Some cause
 Pumps start last ps (Err (fault.Broke cause)) = Waits start (given last ps) ps × PumpBreaks start last ps cause
 Pumps start last ps (Err _) = ⊥

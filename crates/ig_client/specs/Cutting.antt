@@ -1,5 +1,5 @@
 -- The frames of what a server sends after its reply to the hello, and those of them that were asked for.
-use Rattle.std.specs.Prelude.{◌≡◌, ℕ, ◌+◌, ℤ, pos, Bool, true, false, not, ◌&&◌, int_lt, int_le, List, [], ◌∷◌, ◌++◌, if◌then◌else◌}
+use Rattle.std.specs.Prelude.{◌≡◌, ℕ, ◌+◌, ℤ, pos, negsuc, Bool, true, false, not, ◌&&◌, nat_lt, nat_le, List, [], ◌∷◌, ◌++◌, if◌then◌else◌}
 use Rattle.std.specs.Ordering.{int_eq}
 use Rattle.std.specs.List.{fold, list_any}
 use Rattle.ig_base.specs.Numbers.{AreBytes}
@@ -40,10 +40,14 @@ CutsRightly = (least : ℕ) (bytes : List ℕ) → AreBytes bytes → Cut (repli
 abbrev pub has_id : ℤ → List ℕ → Bool
 has_id id body = int_eq (id_of body) id
 
--- of n calls under the identifiers 1 to n, the one with this identifier is pending: it was submitted, and
--- no frame so far has the identifier
+-- of n calls, under the identifiers 1 to n, one has this identifier
+abbrev pub was_made : ℕ → ℤ → Bool
+was_made n (pos id) = nat_lt 0 id && nat_le id n
+was_made n (negsuc id) = false
+
+-- of n calls the one with this identifier is pending: it was made, and no frame so far has the identifier
 abbrev pub is_pending : ℕ → List (List ℕ) → ℤ → Bool
-is_pending n earlier id = int_lt (pos 0) id && (int_le id (pos n) && not (list_any (has_id id) earlier))
+is_pending n earlier id = was_made n id && not (list_any (has_id id) earlier)
 
 -- the frames up to the first one whose call isn't pending when it comes, where n calls were submitted
 abbrev pub asked_from : ℕ → List (List ℕ) → List (List ℕ) → List (List ℕ)

@@ -1,5 +1,5 @@
 -- What a channel was asked and answered so far, read off the pairs.
-use Rattle.std.specs.Prelude.{ℕ, ◌+◌, ℤ, pos, Bool, true, false, List, [], ◌∷◌, Option, None, Some}
+use Rattle.std.specs.Prelude.{ℕ, ◌+◌, ℤ, pos, Bool, true, false, List, [], ◌∷◌, Option, None, Some, if◌then◌else◌}
 use Rattle.std.specs.Option.{option_or}
 use Rattle.std.specs.Ordering.{int_eq}
 use Rattle.std.specs.List.{flat_map, list_any}
@@ -35,7 +35,7 @@ abbrev pub id_given : GotData → Option ℤ
 id_given (got.Sent id) = Some id
 id_given _ = None
 
-abbrev one_if : Option ℤ → ℕ
+abbrev pub one_if : Option ℤ → ℕ
 one_if None = 0
 one_if (Some id) = 1
 
@@ -44,7 +44,7 @@ abbrev pub sent : List Pair → ℕ
 sent [] = 0
 sent (p ∷ ps) = one_if (id_given p.1) + sent ps
 
-abbrev frame_under : ChannelAsk → Option ℤ → List ℕ
+abbrev pub frame_under : ChannelAsk → Option ℤ → List ℕ
 frame_under asks None = []
 frame_under asks (Some id) = Frame (body_of asks id)
 
@@ -76,12 +76,14 @@ abbrev pub first_break : List Pair → Option Break
 first_break [] = None
 first_break (p ∷ ps) = option_or (break_of p.1) (first_break ps)
 
--- some pair answers this break
+-- the break, if there is one, passes the test
+abbrev pub breaks_by : (Break → Bool) → Option Break → Bool
+breaks_by test None = false
+breaks_by test (Some cause) = test cause
+
+-- some pair answers a break that passes the test
 abbrev pub answers_break : (Break → Bool) → List Pair → Bool
-answers_break test ps = list_any (λ p. is_so (break_of p.1)) ps where
-  is_so : Option Break → Bool
-  is_so None = false
-  is_so (Some cause) = test cause
+answers_break test ps = list_any (λ p. breaks_by test (break_of p.1)) ps
 
 abbrev pub is_read_fault : Break → Bool
 is_read_fault break.ReadFault = true
@@ -101,26 +103,29 @@ is_of_frames (Some (break.BadFrame place length)) = true
 is_of_frames (Some (break.Unasked id)) = true
 is_of_frames _ = false
 
--- the submit that a write fault broke, with the pairs before it, as its frame
+-- the frame of the submit that a write fault broke, if one did, where n submits were accepted before
 abbrev pub broken_frame : ℕ → List Pair → List ℕ
 broken_frame n [] = []
-broken_frame n (p ∷ ps) = frame_if (break_of p.1) where
-  frame_if : Option Break → List ℕ
-  frame_if (Some break.WriteFault) = Frame (body_of p.0 (pos (n + 1)))
-  frame_if _ = broken_frame (one_if (id_given p.1) + n) ps
+broken_frame n (p ∷ ps) =
+    if breaks_by is_write_fault (break_of p.1) then Frame (body_of p.0 (pos (n + 1)))
+    else broken_frame (n + one_if (id_given p.1)) ps
 
 -- ---- takes and closes
 
+-- this pair takes the reply to the call with this identifier
+abbrev pub takes : ℤ → ChannelAsk → GotData → Bool
+takes id (ask.Take taken) (got.Taken (Some frame)) = int_eq taken id
+takes id _ _ = false
+
 -- the reply to the call with this identifier was taken
 abbrev pub was_taken : ℤ → List Pair → Bool
-was_taken id ps = list_any (λ p. takes p.0 p.1) ps where
-  takes : ChannelAsk → GotData → Bool
-  takes (ask.Take taken) (got.Taken (Some frame)) = int_eq taken id
-  takes _ _ = false
+was_taken id ps = list_any (λ p. takes id p.0 p.1) ps
+
+-- the answer is what is left of the link
+abbrev pub closes : GotData → Bool
+closes (got.Closed (Some retired)) = true
+closes _ = false
 
 -- the link was retired
 abbrev pub was_closed : List Pair → Bool
-was_closed ps = list_any (λ p. closes p.1) ps where
-  closes : GotData → Bool
-  closes (got.Closed (Some retired)) = true
-  closes _ = false
+was_closed ps = list_any (λ p. closes p.1) ps

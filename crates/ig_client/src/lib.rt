@@ -25,6 +25,7 @@ mod channel;
 mod fault;
 mod front;
 mod greet;
+mod laws;
 mod offer;
 mod pending;
 mod plain;
@@ -35,7 +36,6 @@ mod steps;
 pub use ask::{ChannelAsk, ChannelGot, ChannelStart};
 pub use channel::{Channel, NotStarted};
 pub use fault::{Break, ChannelFault, HandshakeFault};
+pub use laws::replies_are_cut;
 pub use pending::Pending;
 
-#[cfg(test)]
-mod tests;

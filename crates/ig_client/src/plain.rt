@@ -128,7 +128,7 @@ impl<L: Link> Plain for Channel<L> {
         }
     }
 
-    ghost stands_runs = { λ channel start pairs s. (s.bytes, s.run) };
+    ghost stands_runs = { λ channel start pairs s. (s.bytes, record { last = s.last; given_are = s.given_are; each = s.each s.last s.given_are }) };
 
     ghost runs_prefix = { λ start pairs more r. runs_front start pairs more r };
 }

@@ -1,6 +1,6 @@
-use super::*;
 use ig_base::{Items, Octets, Text};
 use ig_caches::{Call, Request};
+use ig_client::{Break, Channel, ChannelFault, HandshakeFault, NotStarted};
 use ig_link::{MemLink, ReadStep, WriteStep};
 use ig_value::Value;
 use ig_wire::{Login, Version};
