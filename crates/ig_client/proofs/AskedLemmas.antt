@@ -76,7 +76,7 @@ asked_then n earlier (body ∷ bodies) more all =
     let parts = asked_parts n earlier body bodies all in
     cond-true (is_pending n earlier (id_of body)) (body ∷ asked_from n (earlier ++ body ∷ []) (bodies ++ more)) [] parts.0
     ∙ ap (λ (l : List (List ℕ)). body ∷ l) (asked_then n (earlier ++ body ∷ []) bodies more parts.1
-      ∙ ap (λ (l : List (List ℕ)). bodies ++ asked_from n l more) (append_assoc earlier (body ∷ []) bodies))
+    ∙ ap (λ (l : List (List ℕ)). bodies ++ asked_from n l more) (append_assoc earlier (body ∷ []) bodies))
 
 -- with one frame more, whose call is pending
 pub asked_one : (n : ℕ) (bodies : List (List ℕ)) (body : List ℕ) → asked n bodies ≡ bodies → is_pending n bodies (id_of body) ≡ true

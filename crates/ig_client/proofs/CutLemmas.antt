@@ -72,7 +72,7 @@ bad_whatever least limit bytes others n (Some (pos k)) h = elim (cases_Bool (nat
   | inl fits ↦ absurd (sized_never_bad k (drop 4 bytes) n (sym (cond-true (nat_le least k && nat_le k limit) (front_sized k (drop 4 bytes)) (Bad (pos k)) fits) ∙ h))
   | inr out ↦ (
     cond-false (nat_le least k && nat_le k limit) (front_sized k (drop 4 others)) (Bad (pos k)) out
-      ∙ sym (cond-false (nat_le least k && nat_le k limit) (front_sized k (drop 4 bytes)) (Bad (pos k)) out) ∙ h,
+        ∙ sym (cond-false (nat_le least k && nat_le k limit) (front_sized k (drop 4 bytes)) (Bad (pos k)) out) ∙ h,
     (pos k, refl),
   )
 ]
@@ -104,11 +104,13 @@ one_more : (least b : ℕ) (input rest : List ℕ) (bodies : List (List ℕ)) �
 one_more least b input rest bodies are is = go (front least max_body (rest ++ b ∷ [])) refl where
   longer : Begins (replies_side least) (input ++ b ∷ []) bodies (rest ++ b ∷ [])
   longer = Begins-more is.begins (b ∷ [])
+
   nothing_after : (body after : List ℕ) (was : Front) → front least max_body rest ≡ was → HasNoFrame was → front least max_body (rest ++ b ∷ []) ≡ Body body after → after ≡ []
   nothing_after body after (Body other more) at none whole = absurd none
   nothing_after body after (Bad n) at none whole = let still : front least max_body (rest ++ b ∷ []) ≡ Bad n = bad_stays least max_body rest (b ∷ []) n at in cc
   nothing_after body after (Incomplete missing) at none whole =
       ends_whole least rest (b ∷ []) body after missing at (omega (arith, front-some-missing least max_body rest missing at)) whole
+
   go : (f : Front) → front least max_body (rest ++ b ∷ []) ≡ f → IsCutSoFar least (input ++ b ∷ []) (with_rest bodies (rest ++ b ∷ []) f)
   go (Incomplete missing) at = record { begins = longer; ends = subst HasNoFrame (sym at) tt }
   go (Bad n) at = record { begins = longer; ends = subst HasNoFrame (sym at) tt }

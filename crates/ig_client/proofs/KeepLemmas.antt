@@ -154,34 +154,41 @@ module _ (least n : ℕ) (stream : Cutting) (taken : ℤ → Bool) (c : PendingS
   } where
     id : ℤ
     id = id_of body
+
     frames : length (flat_map Frame (stream.bodies ++ body ∷ [])) ≡ length (flat_map Frame stream.bodies) + length (Frame body)
     frames =
         ap length (flat_map-append Frame stream.bodies (body ∷ [])) ∙ length-append (flat_map Frame stream.bodies) (flat_map Frame (body ∷ []))
         ∙ ap (λ (l : List ℕ). length (flat_map Frame stream.bodies) + length l) (append-nil (Frame body))
+
     no_reply : list_any (has_id id) stream.bodies ≡ false
     no_reply = false_from_ne_true (list_any (has_id id) stream.bodies) (λ t.
         false≢true (sym (ap (λ b. was_made n id && not b) t ∙ and_false (was_made n id)) ∙ is)) where
           and_false : (b : Bool) → (b && false) ≡ false
           and_false true = refl
           and_false false = refl
+
     not_taken : taken id ≡ false
     not_taken = false_from_ne_true (taken id) (λ t. false≢true (sym no_reply ∙ k.took id t))
+
     its : kept_of n (stream.bodies ++ body ∷ []) (taken id) id ≡ Some (Some (Frame body))
     its =
         ap (λ was. kept_of n (stream.bodies ++ body ∷ []) was id) not_taken
         ∙ ap (reply_or n id) (find-append (has_id id) stream.bodies (body ∷ [])
-          ∙ ap (λ (f : Option (List ℕ)). option_or f (find (has_id id) (body ∷ []))) (any_none (has_id id) stream.bodies no_reply)
-          ∙ cond-true (has_id id body) (Some body) None (has_its_id body))
+        ∙ ap (λ (f : Option (List ℕ)). option_or f (find (has_id id) (body ∷ []))) (any_none (has_id id) stream.bodies no_reply)
+        ∙ cond-true (has_id id body) (Some body) None (has_its_id body))
+
     or_none : (f : Option (List ℕ)) → option_or f None ≡ f
     or_none None = refl
     or_none (Some x) = refl
+
     another : (q : ℤ) → (q ≡ id → ⊥) → kept_of n (stream.bodies ++ body ∷ []) (taken q) q ≡ kept_of n stream.bodies (taken q) q
     another q other =
         let has_not : has_id q body ≡ false = false_from_ne_true (has_id q body) (λ t. other (sym (id_is q body t))) in
         ap (λ (f : Option (List ℕ)). cond (taken q) None (reply_or n q f)) (
-            find-append (has_id q) stream.bodies (body ∷ [])
-            ∙ ap (option_or (find (has_id q) stream.bodies)) (cond-false (has_id q body) (Some body) None has_not)
-            ∙ or_none (find (has_id q) stream.bodies))
+        find-append (has_id q) stream.bodies (body ∷ [])
+        ∙ ap (option_or (find (has_id q) stream.bodies)) (cond-false (has_id q body) (Some body) None has_not)
+        ∙ or_none (find (has_id q) stream.bodies))
+
     now : (q : ℤ) → cond (eq_by_cmp int_cmp q id) (Some (Some (Frame body))) (map.get c.replies q) ≡ kept_of n (stream.bodies ++ body ∷ []) (taken q) q
     now q = elim (cases_Bool (eq_by_cmp int_cmp q id)) [
       | inl same ↦
@@ -218,10 +225,12 @@ module _ (least n : ℕ) (stream : Cutting) (taken : ℤ → Bool) (c : PendingS
     gone true false kept = refl
     gone false true kept = refl
     gone false false kept = refl
+
     found : (was : Bool) (f : Option (List ℕ)) → find (has_id id) stream.bodies ≡ f → cond was None (option_map Frame f) ≡ Some frame → list_any (has_id id) stream.bodies ≡ true
     found true f at some = cc
     found false None at some = cc
     found false (Some body) at some = found_any (has_id id) stream.bodies body at
+
     came_once : list_any (has_id id) stream.bodies ≡ true
     came_once = found (taken id) (find (has_id id) stream.bodies) refl (sym (replies_kept id) ∙ reply)
 
@@ -250,6 +259,7 @@ replies_after bodies taken c id frame reply are q =
       came_cond : (b : Bool) (x : Option (Option (List ℕ))) → came (cond b None x) ≡ cond b None (came x)
       came_cond true x = refl
       came_cond false x = refl
+
       gone : (a t : Bool) (kept : Option (List ℕ)) → cond a None (cond t None kept) ≡ cond (t || a) None kept
       gone true true kept = refl
       gone true false kept = refl

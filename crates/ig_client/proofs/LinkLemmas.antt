@@ -86,10 +86,13 @@ sink_same start ps p sink no_fault no_id is = record {
   written = λ tells.
       let it : (w : List ℕ) × IsWritten ps w × Appends start.written sink.written w = is.written tells in (
         it.0,
-        (it.1.0.0, it.1.0.1.0,
+        (
+          it.1.0.0,
+          it.1.0.1.0,
           it.1.0.1.1.0 ∙ ap (λ (l : List ℕ). l ++ it.1.0.0) (sym (
               sent_bytes_more ps p ∙ ap (λ o. sent_bytes ps ++ frame_under p.0 o) no_id ∙ append-nil (sent_bytes ps))),
-          broken_kept 0 ps p no_fault ∙ it.1.0.1.1.1),
+          broken_kept 0 ps p no_fault ∙ it.1.0.1.1.1,
+        ),
         it.1.1,
       );
   faults = is.faults;
@@ -117,9 +120,12 @@ sink_sent start ps p id old new none no_break its_id moves is = record {
       sent_bytes_more ps p ∙ ap (λ o. sent_bytes ps ++ frame_under p.0 o) its_id
       ∙ ap (λ (l : List ℕ). l ++ Frame (body_of p.0 id)) (sym (all_sent ps it.0 none it.1.0)) in (
         it.0 ++ Frame (body_of p.0 id),
-        ([], [],
+        (
+          [],
+          [],
           sym frames ∙ sym (append-nil (sent_bytes (ps ++ p ∷ []))),
-          broken_kept 0 ps p (ap (breaks_by is_write_fault) no_break) ∙ broken_none 0 ps none),
+          broken_kept 0 ps p (ap (breaks_by is_write_fault) no_break) ∙ broken_none 0 ps none,
+        ),
         Appends-trans start.written old.written new.written it.0 (Frame (body_of p.0 id)) it.1.1 (moves.written tells),
       );
   faults = omega (arith, is.faults, moves.faults);
@@ -137,9 +143,12 @@ sink_broke start ps p count old new none breaks no_id sends is = record {
       let frames : sent_bytes (ps ++ p ∷ []) ≡ it.0 =
       sent_bytes_more ps p ∙ ap (λ o. sent_bytes ps ++ frame_under p.0 o) no_id ∙ append-nil (sent_bytes ps) ∙ sym (all_sent ps it.0 none it.1.0) in (
         it.0 ++ take count frame,
-        (take count frame, drop count frame,
+        (
+          take count frame,
+          drop count frame,
           ap (λ (l : List ℕ). l ++ take count frame) (sym frames),
-          broken_last 0 ps p none ∙ ap (λ b. cond (breaks_by is_write_fault b) frame []) breaks ∙ sym (take-append-drop count frame)),
+          broken_last 0 ps p none ∙ ap (λ b. cond (breaks_by is_write_fault b) frame []) breaks ∙ sym (take-append-drop count frame),
+        ),
         Appends-trans start.written old.written new.written it.0 (take count frame) it.1.1 (sends.advances.written tells),
       );
   faults = omega (arith, is.faults, sends.advances.faults);

@@ -49,26 +49,29 @@ filed_calls : (least n : ℕ) (stream : Cutting) (taken : ℤ → Bool) (c : Pen
     → ((body rest : List ℕ) → front_with least stream piece ≡ Body body rest → rest ≡ [])
     → front_with least stream piece ≡ f → (with_front f (with_bytes piece c)).down ≡ None
     → KeepsCalls least n (with_rest stream.bodies (stream.rest ++ piece) f) taken (with_front f (with_bytes piece c))
-filed_calls least n stream taken c piece (Incomplete missing) k up some are whole at open = keeps_part least n stream taken c k piece missing at
-filed_calls least n stream taken c piece (Bad z) k up some are whole at open = cc
-filed_calls least n stream taken c piece (Body body rest) k up some are whole at open = go (is_waiting (map.get c.replies (id_of body))) refl where
+filed_calls least n stream taken c piece (Incomplete missing) k up some are whole at still = keeps_part least n stream taken c k piece missing at
+filed_calls least n stream taken c piece (Bad z) k up some are whole at still = cc
+filed_calls least n stream taken c piece (Body body rest) k up some are whole at still = go (is_waiting (map.get c.replies (id_of body))) refl where
   none : rest ≡ []
   none = whole body rest at
+
   spelled : c.part ++ piece ≡ Frame body
   spelled =
       ap (λ (l : List ℕ). l ++ piece) k.part ∙ (front-reads least max_body (stream.rest ++ piece) body rest are at).1
       ∙ ap (λ (l : List ℕ). Frame body ++ l) none ∙ append-nil (Frame body)
+
   Kept : Bool → List ℕ → Type 0
   Kept b l =
       KeepsCalls least n (record { bodies = stream.bodies ++ body ∷ []; rest = l }) taken
       (cond b (with_reply (id_of body) (with_bytes piece c)) (broken (break.Unasked (id_of body)) (with_bytes piece c)))
+
   go : (b : Bool) → is_waiting (map.get c.replies (id_of body)) ≡ b → Kept (is_waiting (map.get c.replies (id_of body))) rest
   go true waits =
       subst (λ b. Kept b rest) (sym waits) (subst (Kept true) (sym none)
-        (keeps_reply least n stream taken c k piece body spelled some (sym (waits_kept least n stream taken c k (id_of body)) ∙ waits)))
+      (keeps_reply least n stream taken c k piece body spelled some (sym (waits_kept least n stream taken c k (id_of body)) ∙ waits)))
   go false unasked =
       let broke : Some (break.Unasked (id_of body)) ≡ None =
-      sym (ap (λ b. (cond b (with_reply (id_of body) (with_bytes piece c)) (broken (break.Unasked (id_of body)) (with_bytes piece c))).down) unasked) ∙ open in
+      sym (ap (λ b. (cond b (with_reply (id_of body) (with_bytes piece c)) (broken (break.Unasked (id_of body)) (with_bytes piece c))).down) unasked) ∙ still in
       cc
 
 module _ {L : Type 0} (source : L → SourceState) (sink : L → SinkState) where
@@ -102,7 +105,7 @@ module _ {L : Type 0} (source : L → SourceState) (sink : L → SinkState) wher
       let calls : KeepsCalls (least_of start) (sent ps) (cut (least_of start) s.bytes) (λ q. was_taken q ps) c = s.keeps.calls none in
       let are : s.bytes ≡ pumped ps ++ [] = e ∙ given_open l ps none ∙ sym (append-nil (pumped ps)) in
       subst (λ (bytes : List ℕ). (first_break ps ≡ None) × (pending start (given l ps) ps ≡ 0 → [] ≡ []) × AllAsked (sent ps) (cut (least_of start) bytes)
-        × IsNotBad (front (least_of start) max_body (cut (least_of start) bytes).rest) × IsGiven start.left bytes) are (
+      × IsNotBad (front (least_of start) max_body (cut (least_of start) bytes).rest) × IsGiven start.left bytes) are (
         none,
         λ _. refl,
         calls.all_asked,
@@ -174,18 +177,18 @@ module _ {L : Type 0} (source : L → SourceState) (sink : L → SinkState) wher
       -- bytes were read, and the channel didn't break
       stands_pumped : (piece : List ℕ) → AreBytes piece → 1 ≤ length piece → length piece ≤ next_read c → SourceAdvances (source k) (source k') piece
           → (source k').pauses ≡ (source k).pauses → (filed piece c).down ≡ None → Stands (filed piece c) (Some k') start (ps ++ (ask.Pump, got.Pumped piece) ∷ [])
-      stands_pumped piece bytes some_bytes within moves steady open = record {
+      stands_pumped piece bytes some_bytes within moves steady still = record {
         bytes = s.bytes ++ piece;
         last = s.last;
         given_are = sym (given_then s.last);
         each = λ l e. each_more start l [] ps p (s.each l (before l)) (may_l l);
         keeps = keeps_unbroken start (s.bytes ++ piece) (ps ++ p ∷ []) (filed piece c)
             (ap (λ (n : PendingState). n.least) (filed_is piece) ∙ least_stays (front_with (least_of start) stream piece) ∙ s.keeps.least)
-            (open ∙ sym none ∙ sym (first_same ps p refl))
+            (still ∙ sym none ∙ sym (first_same ps p refl))
             (are_both s.bytes piece s.keeps.are_bytes bytes)
             (keeps_alike (least_of start) (sent (ps ++ p ∷ [])) (cut (least_of start) (s.bytes ++ piece)) (λ q. was_taken q ps) (λ q. was_taken q (ps ++ p ∷ [])) (filed piece c)
-              (λ q. taken_same q ps p refl)
-              (subst (λ n. KeepsCalls (least_of start) n (cut (least_of start) (s.bytes ++ piece)) (λ q. was_taken q ps) (filed piece c)) (sym (sent_same ps p refl)) now_kept));
+            (λ q. taken_same q ps p refl)
+            (subst (λ n. KeepsCalls (least_of start) n (cut (least_of start) (s.bytes ++ piece)) (λ q. was_taken q ps) (filed piece c)) (sym (sent_same ps p refl)) now_kept));
         link_is = (
           closed_same ps p refl ∙ s.link_is.0,
           source_after,
@@ -194,12 +197,15 @@ module _ {L : Type 0} (source : L → SourceState) (sink : L → SinkState) wher
       } where
         p : Pair
         p = (ask.Pump, got.Pumped piece)
+
         given_then : (l : List ℕ) → given l (ps ++ p ∷ []) ≡ s.bytes ++ piece
         given_then l =
             given_is l (ps ++ p ∷ []) None (pumped ps ++ piece) (first_same ps p refl ∙ none) (pumped_more ps p)
             ∙ ap (λ (b : List ℕ). b ++ piece) (sym are)
+
         before : (l : List ℕ) → s.bytes ≡ given l ps
         before l = are ∙ sym (given_open l ps none)
+
         least_stays : (f : Front) → (with_front f (with_bytes piece c)).least ≡ c.least
         least_stays (Incomplete m) = refl
         least_stays (Bad z) = refl
@@ -207,24 +213,28 @@ module _ {L : Type 0} (source : L → SourceState) (sink : L → SinkState) wher
           go : (b : Bool) → (cond b (with_reply (id_of body) (with_bytes piece c)) (broken (break.Unasked (id_of body)) (with_bytes piece c))).least ≡ c.least
           go true = refl
           go false = refl
+
         now_kept : KeepsCalls (least_of start) (sent ps) (cut (least_of start) (s.bytes ++ piece)) (λ q. was_taken q ps) (filed piece c)
         now_kept =
             subst (λ (m : Cutting). KeepsCalls (least_of start) (sent ps) m (λ q. was_taken q ps) (filed piece c)) (sym (grows piece some_bytes within))
             (subst (KeepsCalls (least_of start) (sent ps) (with_rest stream.bodies (stream.rest ++ piece) (front_with (least_of start) stream piece)) (λ q. was_taken q ps)) (sym (filed_is piece))
-              (filed_calls (least_of start) (sent ps) stream (λ q. was_taken q ps) c piece (front_with (least_of start) stream piece) calls up some (read_bytes piece bytes)
-                (λ body rest at. ends_whole (least_of start) stream.rest piece body rest calls.missing.0 calls.missing.1 (fits piece within) at)
-                refl (sym (ap (λ (n : PendingState). n.down) (filed_is piece)) ∙ open)))
+            (filed_calls (least_of start) (sent ps) stream (λ q. was_taken q ps) c piece (front_with (least_of start) stream piece) calls up some (read_bytes piece bytes)
+            (λ body rest at. ends_whole (least_of start) stream.rest piece body rest calls.missing.0 calls.missing.1 (fits piece within) at)
+            refl (sym (ap (λ (n : PendingState). n.down) (filed_is piece)) ∙ still)))
+
         not_idle : (piece : List ℕ) → 1 ≤ length piece → idle start ps (got.Pumped piece) ≡ 0
         not_idle [] h = absurd (omega (arith, h))
         not_idle (b ∷ bs) h = refl
+
         source_after : SourceIs start (s.bytes ++ piece) (ps ++ p ∷ []) (source k')
         source_after =
             source_read start s.bytes ps p (source k) (source k') piece none untold moves (λ t. absurd (false≢true t)) (λ t. absurd (false≢true t))
             (inl (omega (arith, steady, not_idle piece some_bytes))) s.link_is.1.0
+
         may_l : (l : List ℕ) → Pumps start l ps (Ok piece)
         may_l l =
             subst (λ (all : List ℕ). (first_break ps ≡ None) × (pending start (given l ps) ps ≡ 0 → piece ≡ []) × AllAsked (sent ps) (cut (least_of start) all)
-              × IsNotBad (front (least_of start) max_body (cut (least_of start) all).rest) × IsGiven start.left all) (ap (λ (b : List ℕ). b ++ piece) are) (
+            × IsNotBad (front (least_of start) max_body (cut (least_of start) all).rest) × IsGiven start.left all) (ap (λ (b : List ℕ). b ++ piece) are) (
               none,
               λ zero_left. absurd (omega (arith, zero_left, (waits l (before l)).1)),
               now_kept.all_asked,
@@ -253,8 +263,8 @@ module _ {L : Type 0} (source : L → SourceState) (sink : L → SinkState) wher
               ∙ replies_kept (least_of start) (sent ps) stream (λ i. was_taken i ps) c calls q
               ∙ ap (λ (l : List (List ℕ)). reply_among l (was_taken q ps) q) (sym same_asked)
               ∙ sym (ap (λ n. reply_among (asked n (cut (least_of start) (s.bytes ++ piece)).bodies) (was_taken q (ps ++ p ∷ [])) q) (sent_same ps p refl)
-                ∙ ap (λ b. reply_among (asked (sent ps) (cut (least_of start) (s.bytes ++ piece)).bodies) b q) (taken_same q ps p refl));
-          calls = λ open. let both : Some cause ≡ None = sym breaks ∙ open in cc;
+              ∙ ap (λ b. reply_among (asked (sent ps) (cut (least_of start) (s.bytes ++ piece)).bodies) b q) (taken_same q ps p refl));
+          calls = λ still. let both : Some cause ≡ None = sym breaks ∙ still in cc;
           are_bytes = are_both s.bytes piece s.keeps.are_bytes bytes;
         };
         link_is = (
@@ -267,14 +277,18 @@ module _ {L : Type 0} (source : L → SourceState) (sink : L → SinkState) wher
       } where
         p : Pair
         p = (ask.Pump, got.NotPumped (fault.Broke cause))
+
         breaks : first_break (ps ++ p ∷ []) ≡ Some cause
         breaks = first_now ps p cause none refl
+
         before : (l : List ℕ) → s.bytes ≡ given l ps
         before l = are ∙ sym (given_open l ps none)
+
         given_then : (l : List ℕ) → given l (ps ++ p ∷ []) ≡ s.bytes ++ l
         given_then l =
             given_is l (ps ++ p ∷ []) (Some cause) (pumped ps) breaks (pumped_same ps p refl)
             ∙ cond-true (is_of_frames (Some cause)) (pumped ps ++ l) (pumped ps) of_frames ∙ ap (λ (b : List ℕ). b ++ l) (sym are)
+
         not_read : (cause : Break) → is_of_frames (Some cause) ≡ true → is_read_fault cause ≡ true → ⊥
         not_read (break.BadFrame place z) of t = cc
         not_read (break.Unasked id) of t = cc
@@ -282,6 +296,7 @@ module _ {L : Type 0} (source : L → SourceState) (sink : L → SinkState) wher
         not_read break.WriteFault of t = cc
         not_read break.PeerEnded of t = cc
         not_read break.Closed of t = cc
+
         not_end : (cause : Break) → is_of_frames (Some cause) ≡ true → is_end cause ≡ true → ⊥
         not_end (break.BadFrame place z) of t = cc
         not_end (break.Unasked id) of t = cc
@@ -289,6 +304,7 @@ module _ {L : Type 0} (source : L → SourceState) (sink : L → SinkState) wher
         not_end break.WriteFault of t = cc
         not_end break.PeerEnded of t = cc
         not_end break.Closed of t = cc
+
         not_write : (cause : Break) → is_of_frames (Some cause) ≡ true → is_write_fault cause ≡ false
         not_write (break.BadFrame place z) of = refl
         not_write (break.Unasked id) of = refl
@@ -315,8 +331,8 @@ module _ {L : Type 0} (source : L → SourceState) (sink : L → SinkState) wher
           replies = λ q.
               s.keeps.replies q
               ∙ sym (ap (λ n. reply_among (asked n stream.bodies) (was_taken q (ps ++ p ∷ [])) q) (sent_same ps p refl)
-                ∙ ap (λ b. reply_among (filed_bodies start s.bytes ps) b q) (taken_same q ps p refl));
-          calls = λ open. let both : Some cause ≡ None = sym breaks ∙ open in cc;
+              ∙ ap (λ b. reply_among (filed_bodies start s.bytes ps) b q) (taken_same q ps p refl));
+          calls = λ still. let both : Some cause ≡ None = sym breaks ∙ still in cc;
           are_bytes = s.keeps.are_bytes;
         };
         link_is = (
@@ -328,8 +344,10 @@ module _ {L : Type 0} (source : L → SourceState) (sink : L → SinkState) wher
       } where
         p : Pair
         p = (ask.Pump, got.NotPumped (fault.Broke cause))
+
         breaks : first_break (ps ++ p ∷ []) ≡ Some cause
         breaks = first_now ps p cause none refl
+
         given_then : (l : List ℕ) → given l (ps ++ p ∷ []) ≡ given l ps
         given_then l =
             given_is l (ps ++ p ∷ []) (Some cause) (pumped ps) breaks (pumped_same ps p refl)
@@ -342,14 +360,16 @@ module _ {L : Type 0} (source : L → SourceState) (sink : L → SinkState) wher
             closed_same ps p refl ∙ s.link_is.0,
             subst (λ (bytes : List ℕ). SourceIs start bytes (ps ++ p ∷ []) (source k')) (append-nil s.bytes)
                 (source_read start s.bytes ps p (source k) (source k') [] none untold paused.advances (λ t. absurd (false≢true t)) (λ t. absurd (false≢true t))
-                  (counted paused.rose (idle start ps (got.Pumped [])) (at_most_one (nat_lt (length (asked (sent ps) (cut (least_of start) (pumped ps)).bodies)) (sent ps)))) s.link_is.1.0),
+                (counted paused.rose (idle start ps (got.Pumped [])) (at_most_one (nat_lt (length (asked (sent ps) (cut (least_of start) (pumped ps)).bodies)) (sent ps)))) s.link_is.1.0),
             sink_stays p refl refl,
           ) where
             p : Pair
             p = (ask.Pump, got.Pumped [])
+
             at_most_one : (b : Bool) → cond b 1 0 ≤ 1
             at_most_one true = omega arith
             at_most_one false = omega arith
+
             counted : Rose (source k).pauses (source k').pauses → (n : ℕ) → n ≤ 1
                 → ((source k).pauses + n ≤ (source k').pauses) ⊎ (2 ^ 64 - 1 ≤ (source k').pauses)
             counted (inl rise) n small = inl (omega (arith, rise, small))
@@ -364,12 +384,15 @@ module _ {L : Type 0} (source : L → SourceState) (sink : L → SinkState) wher
           (go (front_with (least_of start) stream piece) refl (sym (ap (λ (n : PendingState). n.down) (filed_is piece)) ∙ down)) where
             p : Pair
             p = (ask.Pump, got.NotPumped (fault.Broke cause))
+
             given_now : IsGiven start.left (pumped ps ++ piece)
             given_now =
                 given_of start.left (source k').left (pumped ps ++ piece) (subst (Consumes start.left (source k').left) (ap (λ (b : List ℕ). b ++ piece) are)
-                  (Consumes-trans start.left (source k).left (source k').left s.bytes piece s.link_is.1.0.left moves.left))
+                (Consumes-trans start.left (source k).left (source k').left s.bytes piece s.link_is.1.0.left moves.left))
+
             cut_is : (f : Front) → front_with (least_of start) stream piece ≡ f → cut (least_of start) (s.bytes ++ piece) ≡ with_rest stream.bodies (stream.rest ++ piece) f
             cut_is f at = grows piece some_bytes within ∙ ap (with_rest stream.bodies (stream.rest ++ piece)) at
+
             go : (f : Front) → front_with (least_of start) stream piece ≡ f → (with_front f (with_bytes piece c)).down ≡ Some cause
                 → Stands (with_front f (with_bytes piece c)) (Some k') start (ps ++ p ∷ [])
             go (Incomplete m) at broke = let both : None ≡ Some cause = sym up ∙ broke in cc
@@ -378,16 +401,17 @@ module _ {L : Type 0} (source : L → SourceState) (sink : L → SinkState) wher
                 let grown : cut (least_of start) (s.bytes ++ piece) ≡ record { bodies = stream.bodies; rest = stream.rest ++ piece } = cut_is (Bad z) at in
                 let why : PumpBreaks start piece ps (break.BadFrame c.place z) =
                 subst (λ (all : List ℕ). AllAsked (sent ps) (cut (least_of start) all) × (front (least_of start) max_body (cut (least_of start) all).rest ≡ Bad z)
-                  × (c.place ≡ min (length (flat_map Frame (cut (least_of start) all).bodies)) (2 ^ 64 - 1)) × IsGiven start.left (pumped ps ++ piece)) (ap (λ (b : List ℕ). b ++ piece) are)
+                × (c.place ≡ min (length (flat_map Frame (cut (least_of start) all).bodies)) (2 ^ 64 - 1)) × IsGiven start.left (pumped ps ++ piece)) (ap (λ (b : List ℕ). b ++ piece) are)
                 (subst (λ (m : Cutting). AllAsked (sent ps) m × (front (least_of start) max_body m.rest ≡ Bad z)
-                  × (c.place ≡ min (length (flat_map Frame m.bodies)) (2 ^ 64 - 1)) × IsGiven start.left (pumped ps ++ piece)) (sym grown)
-                  (calls.all_asked, at, calls.place, given_now)) in
+                × (c.place ≡ min (length (flat_map Frame m.bodies)) (2 ^ 64 - 1)) × IsGiven start.left (pumped ps ++ piece)) (sym grown)
+                (calls.all_asked, at, calls.place, given_now)) in
                 subst (λ (b : Break). Stands (with_front (Bad z) (with_bytes piece c)) (Some k') start (ps ++ (ask.Pump, got.NotPumped (fault.Broke b)) ∷ [])) is
                 (stands_frames_broke piece (break.BadFrame c.place z) (with_front (Bad z) (with_bytes piece c)) bytes moves steady refl why refl refl (λ q. refl)
-                  (ap (λ (m : Cutting). asked (sent ps) m.bodies) grown ∙ calls.all_asked))
+                (ap (λ (m : Cutting). asked (sent ps) m.bodies) grown ∙ calls.all_asked))
             go (Body body rest) at broke = by_call (is_waiting (map.get c.replies (id_of body))) refl broke where
               Now : Bool → PendingState
               Now b = cond b (with_reply (id_of body) (with_bytes piece c)) (broken (break.Unasked (id_of body)) (with_bytes piece c))
+
               by_call : (b : Bool) → is_waiting (map.get c.replies (id_of body)) ≡ b → (Now b).down ≡ Some cause → Stands (Now b) (Some k') start (ps ++ p ∷ [])
               by_call true waits broke = let both : None ≡ Some cause = sym up ∙ broke in cc
               by_call false unasked broke =
@@ -398,12 +422,12 @@ module _ {L : Type 0} (source : L → SourceState) (sink : L → SinkState) wher
                   let why : PumpBreaks start piece ps (break.Unasked (id_of body)) = (
                     subst (λ (all : List ℕ). IsUnasked (sent ps) (cut (least_of start) all) (id_of body)) (ap (λ (b : List ℕ). b ++ piece) are)
                         (subst (λ (m : Cutting). IsUnasked (sent ps) m (id_of body)) (sym grown)
-                          (body, [], ap (λ (l : List (List ℕ)). l ++ body ∷ []) (sym stops), refl)),
+                        (body, [], ap (λ (l : List (List ℕ)). l ++ body ∷ []) (sym stops), refl)),
                     given_now,
                   ) in
                   subst (λ (b : Break). Stands (Now false) (Some k') start (ps ++ (ask.Pump, got.NotPumped (fault.Broke b)) ∷ [])) is
                   (stands_frames_broke piece (break.Unasked (id_of body)) (Now false) bytes moves steady refl why refl refl (λ q. refl)
-                    (ap (λ (m : Cutting). asked (sent ps) m.bodies) grown ∙ stops))
+                  (ap (λ (m : Cutting). asked (sent ps) m.bodies) grown ∙ stops))
 
   -- ---- a pump that reads
 
@@ -415,30 +439,30 @@ module _ {L : Type 0} (source : L → SourceState) (sink : L → SinkState) wher
       let is : new ≡ filed (take n buf) c = files.1.0 ∙ ap (λ (l : List ℕ). filed l c) files.0 in
       subst (λ (m : PendingState). Stands m (Some k') start (ps ++ (ask.Pump, got.Pumped bytes) ∷ [])) (sym is)
       (subst (λ (l : List ℕ). Stands (filed (take n buf) c) (Some k') start (ps ++ (ask.Pump, got.Pumped l) ∷ [])) (sym files.0)
-        (stands_pumped c k k' up some start ps s untold same (take n buf) (are_taken n buf are) (omega (arith, len, reads.some)) (omega (arith, len, reads.fits, size))
-          reads.advances reads.pauses (sym (ap (λ (m : PendingState). m.down) is) ∙ files.1.1)))
+      (stands_pumped c k k' up some start ps s untold same (take n buf) (are_taken n buf are) (omega (arith, len, reads.some)) (omega (arith, len, reads.fits, size))
+      reads.advances reads.pauses (sym (ap (λ (m : PendingState). m.down) is) ∙ files.1.1)))
   stands_pump c new k k' (now.Bytes n) buf (Err cause) up some size are untold same reads files =
       let len : length (take n buf) ≡ n = length-take-le n buf reads.fits in
       subst (λ (f : ChannelFault). Gains (Stands c (Some k)) (Stands new (Some k')) (pump_pair (Err f))) (sym files.1.1.1)
       (λ start ps s. subst (λ (m : PendingState). Stands m (Some k') start (ps ++ (ask.Pump, got.NotPumped (fault.Broke files.1.0)) ∷ [])) (sym files.0)
-        (stands_filed_broke c k k' up some start ps s untold same (take n buf) files.1.0 (are_taken n buf are) (omega (arith, len, reads.some)) (omega (arith, len, reads.fits, size))
-          reads.advances reads.pauses (sym (ap (λ (m : PendingState). m.down) files.0) ∙ files.1.1.0)))
+      (stands_filed_broke c k k' up some start ps s untold same (take n buf) files.1.0 (are_taken n buf are) (omega (arith, len, reads.some)) (omega (arith, len, reads.fits, size))
+      reads.advances reads.pauses (sym (ap (λ (m : PendingState). m.down) files.0) ∙ files.1.1.0)))
   stands_pump c new k k' now.NotYet buf result up some size are untold same reads files =
       subst (λ (r : Result (List ℕ) ChannelFault). Gains (Stands c (Some k)) (Stands new (Some k')) (pump_pair r)) (sym files.0)
       (λ start ps s. subst (λ (m : PendingState). Stands m (Some k') start (ps ++ (ask.Pump, got.Pumped []) ∷ [])) (sym files.1)
-        (stands_paused c k k' up some start ps s untold same reads))
+      (stands_paused c k k' up some start ps s untold same reads))
   stands_pump c new k k' now.End buf result up some size are untold same reads files =
       subst (λ (r : Result (List ℕ) ChannelFault). Gains (Stands c (Some k)) (Stands new (Some k')) (pump_pair r)) (sym files.0)
       (λ start ps s. subst (λ (m : PendingState). Stands m (Some k') start (ps ++ (ask.Pump, got.NotPumped (fault.Broke break.PeerEnded)) ∷ [])) (sym files.1)
-        (stands_lost c k k' up some start ps s untold same break.PeerEnded refl refl reads.advances (λ t. absurd (false≢true t)) (λ t. reads.ended) reads.pauses
-          (λ l held. given_all start.left (source k).left (pumped ps)
-            (subst (Consumes start.left (source k).left) (s.given_are ∙ given_open s.last ps (sym s.keeps.down ∙ up)) s.link_is.1.0.left)
-            s.link_is.1.0.untold (reads.whole (s.link_is.1.0.holds held)))))
+      (stands_lost c k k' up some start ps s untold same break.PeerEnded refl refl reads.advances (λ t. absurd (false≢true t)) (λ t. reads.ended) reads.pauses
+      (λ l held. given_all start.left (source k).left (pumped ps)
+      (subst (Consumes start.left (source k).left) (s.given_are ∙ given_open s.last ps (sym s.keeps.down ∙ up)) s.link_is.1.0.left)
+      s.link_is.1.0.untold (reads.whole (s.link_is.1.0.holds held)))))
   stands_pump c new k k' now.Failed buf result up some size are untold same reads files =
       subst (λ (r : Result (List ℕ) ChannelFault). Gains (Stands c (Some k)) (Stands new (Some k')) (pump_pair r)) (sym files.0)
       (λ start ps s. subst (λ (m : PendingState). Stands m (Some k') start (ps ++ (ask.Pump, got.NotPumped (fault.Broke break.ReadFault)) ∷ [])) (sym files.1)
-        (stands_lost c k k' up some start ps s untold same break.ReadFault refl refl reads.advances (λ t. reads.rose) (λ t. absurd (false≢true t)) reads.pauses
-          (λ l. failed start.reads_hold s.link_is.1.0.holds))) where
-            failed : (b : Bool) → (b ≡ true → (source k).holds ≡ true) → b ≡ false
-            failed true so = absurd (false≢true (sym reads.holds_not ∙ so refl))
-            failed false so = refl
+      (stands_lost c k k' up some start ps s untold same break.ReadFault refl refl reads.advances (λ t. reads.rose) (λ t. absurd (false≢true t)) reads.pauses
+      (λ l. failed start.reads_hold s.link_is.1.0.holds))) where
+        failed : (b : Bool) → (b ≡ true → (source k).holds ≡ true) → b ≡ false
+        failed true so = absurd (false≢true (sym reads.holds_not ∙ so refl))
+        failed false so = refl

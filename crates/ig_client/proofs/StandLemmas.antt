@@ -82,12 +82,12 @@ keeps_quiet start bytes ps p c quiet k = record {
   replies = λ q.
       k.replies q
       ∙ sym (ap (λ n. reply_among (asked n (cut (least_of start) bytes).bodies) (was_taken q (ps ++ p ∷ [])) q) (sent_same ps p quiet.no_id)
-        ∙ ap (λ b. reply_among (asked (sent ps) (cut (least_of start) bytes).bodies) b q) (taken_same q ps p (quiet.no_take q)));
+      ∙ ap (λ b. reply_among (asked (sent ps) (cut (least_of start) bytes).bodies) b q) (taken_same q ps p (quiet.no_take q)));
   calls = λ none.
       keeps_alike (least_of start) (sent (ps ++ p ∷ [])) (cut (least_of start) bytes) (λ q. was_taken q ps) (λ q. was_taken q (ps ++ p ∷ [])) c
-          (λ q. taken_same q ps p (quiet.no_take q))
-          (subst (λ n. KeepsCalls (least_of start) n (cut (least_of start) bytes) (λ q. was_taken q ps) c) (sym (sent_same ps p quiet.no_id))
-            (k.calls (sym (first_same ps p quiet.no_break) ∙ none)));
+      (λ q. taken_same q ps p (quiet.no_take q))
+      (subst (λ n. KeepsCalls (least_of start) n (cut (least_of start) bytes) (λ q. was_taken q ps) c) (sym (sent_same ps p quiet.no_id))
+      (k.calls (sym (first_same ps p quiet.no_break) ∙ none)));
   are_bytes = k.are_bytes;
 }
 
@@ -153,7 +153,7 @@ module _ {L : Type 0} (source : L → SourceState) (sink : L → SinkState) wher
       let quiet : Quiet p = record { no_id = refl; no_bytes = refl; no_break = refl; no_take = λ q. refl; no_close = refl } in
       subst (λ (r : Option (List ℕ)). ChannelStands source sink (record c { replies = left_by id r c.replies }) link start (ps ++ p ∷ [])) (sym is)
       (stands_quiet start ps p c link quiet refl s (λ l e.
-          sym is ∙ s.keeps.replies id ∙ ap (λ (bytes : List ℕ). reply_among (filed_bodies start bytes ps) (was_taken id ps) id) e))
+      sym is ∙ s.keeps.replies id ∙ ap (λ (bytes : List ℕ). reply_among (filed_bodies start bytes ps) (was_taken id ps) id) e))
   stands_take id c link (Some frame) is start ps s = record {
     bytes = s.bytes;
     last = s.last;
@@ -161,25 +161,26 @@ module _ {L : Type 0} (source : L → SourceState) (sink : L → SinkState) wher
     each = λ l e.
         let before : s.bytes ≡ given l ps = e ∙ given_same l ps p refl refl in
         each_more start l [] ps p (s.each l before)
-            (sym is ∙ s.keeps.replies id ∙ ap (λ (bytes : List ℕ). reply_among (filed_bodies start bytes ps) (was_taken id ps) id) before);
+        (sym is ∙ s.keeps.replies id ∙ ap (λ (bytes : List ℕ). reply_among (filed_bodies start bytes ps) (was_taken id ps) id) before);
     keeps = record {
       least = s.keeps.least;
       down = s.keeps.down ∙ sym (first_same ps p refl);
       replies = λ q.
           replies_after (filed_bodies start s.bytes ps) (λ i. was_taken i ps) c id frame is s.keeps.replies q
           ∙ sym (ap (λ n. reply_among (asked n (cut (least_of start) s.bytes).bodies) (was_taken q (ps ++ p ∷ [])) q) (sent_same ps p refl)
-            ∙ ap (λ b. reply_among (filed_bodies start s.bytes ps) b q) (taken_more q ps p));
+          ∙ ap (λ b. reply_among (filed_bodies start s.bytes ps) b q) (taken_more q ps p));
       calls = λ none.
           keeps_alike (least_of start) (sent (ps ++ p ∷ [])) (cut (least_of start) s.bytes) (λ q. was_taken q ps || int_eq id q) (λ q. was_taken q (ps ++ p ∷ [])) (after_take id c)
-              (λ q. taken_more q ps p)
-              (subst (λ n. KeepsCalls (least_of start) n (cut (least_of start) s.bytes) (λ q. was_taken q ps || int_eq id q) (after_take id c)) (sym (sent_same ps p refl))
-                (keeps_take (least_of start) (sent ps) (cut (least_of start) s.bytes) (λ q. was_taken q ps) c (s.keeps.calls (sym (first_same ps p refl) ∙ none)) id frame is));
+          (λ q. taken_more q ps p)
+          (subst (λ n. KeepsCalls (least_of start) n (cut (least_of start) s.bytes) (λ q. was_taken q ps || int_eq id q) (after_take id c)) (sym (sent_same ps p refl))
+          (keeps_take (least_of start) (sent ps) (cut (least_of start) s.bytes) (λ q. was_taken q ps) c (s.keeps.calls (sym (first_same ps p refl) ∙ none)) id frame is));
       are_bytes = s.keeps.are_bytes;
     };
     link_is = link_same link s.link_is;
   } where
     p : Pair
     p = (ask.Take id, got.Taken (Some frame))
+
     link_same : (link : Option L) → LinkStands source sink start s.bytes ps link → LinkStands source sink start s.bytes (ps ++ p ∷ []) link
     link_same (Some k) h = (
       closed_same ps p refl ∙ h.0,
@@ -200,32 +201,40 @@ module _ {L : Type 0} (source : L → SourceState) (sink : L → SinkState) wher
     given_are = s.given_are ∙ sym (given_then s.last);
     each = λ l e.
         let before : s.bytes ≡ given l ps = e ∙ given_then l in
-        each_more start l [] ps p (s.each l before)
-            (s.link_is.0, subst (λ (bytes : List ℕ). ShownSince start shown bytes ps) before
-              (shown_since start s.bytes ps (source link) (sink link) shown s.link_is.1.0 s.link_is.1.1 shows));
+        each_more start l [] ps p (s.each l before) (
+          s.link_is.0,
+          subst (λ (bytes : List ℕ). ShownSince start shown bytes ps) before
+              (shown_since start s.bytes ps (source link) (sink link) shown s.link_is.1.0 s.link_is.1.1 shows),
+        );
     keeps = kept c.down refl;
     link_is = closed_more ps p ∙ or_true (was_closed ps);
   } where
     p : Pair
     p = (ask.Close, got.Closed (Some shown))
+
     or_true : (b : Bool) → (b || true) ≡ true
     or_true true = refl
     or_true false = refl
+
     of_frames : (b : Option Break) → is_of_frames (option_or b (Some Closed)) ≡ is_of_frames b
     of_frames None = refl
     of_frames (Some cause) = refl
+
     given_then : (l : List ℕ) → given l (ps ++ p ∷ []) ≡ given l ps
     given_then l =
         given_is l (ps ++ p ∷ []) (option_or (first_break ps) (Some Closed)) (pumped ps) (first_break_more ps p) (pumped_same ps p refl)
         ∙ ap (λ b. cond b (pumped ps ++ l) (pumped ps)) (of_frames (first_break ps))
+
     replies_then : (q : ℤ) → reply_to q c ≡ reply_among (filed_bodies start s.bytes (ps ++ p ∷ [])) (was_taken q (ps ++ p ∷ [])) q
     replies_then q =
         s.keeps.replies q
         ∙ sym (ap (λ n. reply_among (asked n (cut (least_of start) s.bytes).bodies) (was_taken q (ps ++ p ∷ [])) q) (sent_same ps p refl)
-          ∙ ap (λ b. reply_among (filed_bodies start s.bytes ps) b q) (taken_same q ps p refl))
+        ∙ ap (λ b. reply_among (filed_bodies start s.bytes ps) b q) (taken_same q ps p refl))
+
     never : (cause : Break) → first_break (ps ++ p ∷ []) ≡ Some cause → first_break (ps ++ p ∷ []) ≡ None
         → KeepsCalls (least_of start) (sent (ps ++ p ∷ [])) (cut (least_of start) s.bytes) (λ id. was_taken id (ps ++ p ∷ [])) new
     never cause some none = let both : Some cause ≡ None = sym some ∙ none in cc
+
     kept : (d : Option Break) → c.down ≡ d → Keeps start s.bytes (ps ++ p ∷ []) new
     kept None is =
         let now : new ≡ broken Closed c = first is in

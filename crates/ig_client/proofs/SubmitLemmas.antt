@@ -47,6 +47,7 @@ offered_open body None last waiting id is = (refl, go (nat_lt last last_id) (nat
   sized : (g : Bool) → cond g (Ok (pos (last + 1))) (Err fault.TooLong) ≡ Ok id → id ≡ pos (last + 1)
   sized true e = cc
   sized false e = cc
+
   go : (a b : Bool) → offered body (cond a (cond b (Ok (pos (last + 1))) (Err fault.Full)) (Err fault.Spent)) ≡ Ok id → id ≡ pos (last + 1)
   go true true e = sized (nat_le (length (body (pos (last + 1)))) max_body) e
   go true false e = cc
@@ -59,6 +60,7 @@ never_broke body None last waiting cause is = go (nat_lt last last_id) (nat_lt w
   sized : (g : Bool) → cond g (Ok (pos (last + 1))) (Err fault.TooLong) ≡ Err (fault.Broke cause) → ⊥
   sized true e = cc
   sized false e = cc
+
   go : (a b : Bool) → offered body (cond a (cond b (Ok (pos (last + 1))) (Err fault.Full)) (Err fault.Spent)) ≡ Err (fault.Broke cause) → ⊥
   go true true e = sized (nat_le (length (body (pos (last + 1)))) max_body) e
   go true false e = cc
@@ -157,7 +159,7 @@ module _ {L : Type 0} (source : L → SourceState) (sink : L → SinkState) (ask
       → offered (body_of asks) (next_id c) ≡ Err cause → Gains (Stands c link) (Stands c link) (Some (asks, refused cause))
   stands_refused c link cause none so is start ps s =
       stands_quiet source sink start ps (asks, refused cause) c link (quiet cause none) (it.busy start ps cause) s (λ l e.
-          it.refused_may start l ps cause (so start l ps (outcome_over c link start ps (Err cause) s l e is)))
+      it.refused_may start l ps cause (so start l ps (outcome_over c link start ps (Err cause) s l e is)))
 
   stands_unsent : (c : PendingState) (link : Option L) (cause : ChannelFault) → OrNoMemory (offered (body_of asks) (next_id c)) cause
       → Gains (Stands c link) (Stands c link) (submit_pair asks refused (Err cause))
@@ -196,8 +198,8 @@ module _ {L : Type 0} (source : L → SourceState) (sink : L → SinkState) (ask
           each_more start l [] ps p (s.each l before) (it.sent_may start l ps id (outcome_over c (Some k) start ps (Ok id) s l before is));
       keeps = keeps_unbroken start s.bytes (ps ++ p ∷ []) (with_call c) s.keeps.least (s.keeps.down ∙ sym (first_same ps p refl)) s.keeps.are_bytes
           (keeps_alike (least_of start) (sent (ps ++ p ∷ [])) (cut (least_of start) s.bytes) (λ q. was_taken q ps) (λ q. was_taken q (ps ++ p ∷ [])) (with_call c)
-            (λ q. taken_same q ps p (it.no_take q (got.Sent id)))
-            (subst (λ n. KeepsCalls (least_of start) n (cut (least_of start) s.bytes) (λ q. was_taken q ps) (with_call c)) (sym (sent_more ps p)) (one_more (Some k) start ps s)));
+          (λ q. taken_same q ps p (it.no_take q (got.Sent id)))
+          (subst (λ n. KeepsCalls (least_of start) n (cut (least_of start) s.bytes) (λ q. was_taken q ps) (with_call c)) (sym (sent_more ps p)) (one_more (Some k) start ps s)));
       link_is = (
         closed_same ps p refl ∙ s.link_is.0,
         subst (SourceIs start s.bytes (ps ++ p ∷ [])) (sym same) (source_same start s.bytes ps p (source k) refl refl refl s.link_is.1.0),
@@ -217,7 +219,7 @@ module _ {L : Type 0} (source : L → SourceState) (sink : L → SinkState) (ask
           let before : s.bytes ≡ given l ps = e ∙ given_then l in
           let made : outcome start (given l ps) ps asks ≡ Ok id = outcome_over c (Some k) start ps (Ok id) s l before is in
           each_more start l [] ps p (s.each l before)
-              (it.refused_may start l ps (fault.Broke WriteFault) (subst IsOk (sym made) tt, failed));
+          (it.refused_may start l ps (fault.Broke WriteFault) (subst IsOk (sym made) tt, failed));
       keeps = record {
         least = s.keeps.least;
         down = sym breaks;
@@ -225,8 +227,8 @@ module _ {L : Type 0} (source : L → SourceState) (sink : L → SinkState) (ask
             replies_kept (least_of start) (sent ps + 1) (cut (least_of start) s.bytes) (λ i. was_taken i ps) (with_call c) (one_more (Some k) start ps s) q
             ∙ ap (λ (l : List (List ℕ)). reply_among l (was_taken q ps) q) (sym (calls (Some k) start ps s).all_asked)
             ∙ sym (ap (λ n. reply_among (asked n (cut (least_of start) s.bytes).bodies) (was_taken q (ps ++ p ∷ [])) q) (sent_same ps p (it.no_id (fault.Broke WriteFault)))
-              ∙ ap (λ b. reply_among (filed_bodies start s.bytes ps) b q) (taken_same q ps p (it.no_take q (refused (fault.Broke WriteFault)))));
-        calls = λ open. let both : Some WriteFault ≡ None = sym breaks ∙ open in cc;
+            ∙ ap (λ b. reply_among (filed_bodies start s.bytes ps) b q) (taken_same q ps p (it.no_take q (refused (fault.Broke WriteFault)))));
+        calls = λ still. let both : Some WriteFault ≡ None = sym breaks ∙ still in cc;
         are_bytes = s.keeps.are_bytes;
       };
       link_is = (
@@ -239,16 +241,21 @@ module _ {L : Type 0} (source : L → SourceState) (sink : L → SinkState) (ask
     } where
       p : Pair
       p = (asks, refused (fault.Broke WriteFault))
+
       unbroken : first_break ps ≡ None
       unbroken = none (Some k) start ps s
+
       its_break : break_of p.1 ≡ Some WriteFault
       its_break = it.breaks (fault.Broke WriteFault)
+
       breaks : first_break (ps ++ p ∷ []) ≡ Some WriteFault
       breaks = first_now ps p WriteFault unbroken its_break
+
       given_then : (l : List ℕ) → given l (ps ++ p ∷ []) ≡ given l ps
       given_then l =
           given_is l (ps ++ p ∷ []) (Some WriteFault) (pumped ps) breaks (pumped_same ps p (it.no_bytes (fault.Broke WriteFault)))
           ∙ sym (given_is l ps None (pumped ps) unbroken refl)
+
       failed : start.writes_hold ≡ false
       failed = holds_not start.writes_hold s.link_is.1.1.holds where
         holds_not : (b : Bool) → (b ≡ true → (sink k).holds ≡ true) → b ≡ false
@@ -268,7 +275,7 @@ module _ {L : Type 0} (source : L → SourceState) (sink : L → SinkState) (ask
     stands_written k k' new (Err cause) same sends =
         subst (λ (n : PendingState). Gains (Stands c (Some k)) (Stands n (Some k')) (submit_pair asks refused (Err cause))) (sym sends.1.0)
         (subst (λ (f : ChannelFault). Gains (Stands c (Some k)) (Stands (broken WriteFault (with_call c)) (Some k')) (submit_pair asks refused (Err f))) (sym sends.0)
-          (stands_broken k k' sends.1.1.0 sends.1.1.1 same))
+        (stands_broken k k' sends.1.1.0 sends.1.1.1 same))
 
     stands_offered : (link link' : Option L) (new : PendingState) (answer : Result ℤ ChannelFault) → steps.SameSource source link link'
         → steps.LinkSends sink id (Frame (body_of asks id)) (with_call c) new link link' answer
@@ -285,7 +292,7 @@ module _ {L : Type 0} (source : L → SourceState) (sink : L → SinkState) (ask
   stands_submit old new link link' answer same (inl refusal) =
       subst (λ (n : PendingState). Gains (Stands old link) (Stands n link') (submit_pair asks refused answer)) (sym refusal.1.1.0)
       (subst (λ (l : Option L). Gains (Stands old link) (Stands old l) (submit_pair asks refused answer)) (sym refusal.1.1.1.0)
-        (subst (λ (r : Result ℤ ChannelFault). Gains (Stands old link) (Stands old link) (submit_pair asks refused r)) (sym refusal.1.0)
-          (stands_unsent old link refusal.0 refusal.1.1.1.1)))
+      (subst (λ (r : Result ℤ ChannelFault). Gains (Stands old link) (Stands old link) (submit_pair asks refused r)) (sym refusal.1.0)
+      (stands_unsent old link refusal.0 refusal.1.1.1.1)))
   stands_submit old new link link' answer same (inr sends) =
       stands_offered old sends.0 sends.1.0 link link' new answer same sends.1.1

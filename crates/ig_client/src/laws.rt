@@ -6,5 +6,4 @@ ghost use Rattle.ig_client.specs.Cutting.{CutsRightly};
 /// cut that the contracts of this crate speak of.
 pub fn replies_are_cut()
     ensures { CutsRightly }
-{
-}
+{}

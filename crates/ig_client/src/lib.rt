@@ -38,4 +38,3 @@ pub use channel::{Channel, NotStarted};
 pub use fault::{Break, ChannelFault, HandshakeFault};
 pub use laws::replies_are_cut;
 pub use pending::Pending;
-
