@@ -144,44 +144,41 @@ module _ (least n : ℕ) (stream : Cutting) (taken : ℤ → Bool) (c : PendingS
     last_is = k.last_is;
     waiting = omega (arith, k.waiting, some, length-append stream.bodies (body ∷ []));
     calls = λ q.
-        map.get-insert int_cmp_total c.replies id (Some (c.part ++ piece)) q
-        ∙ ap (λ (l : List ℕ). cond (eq_by_cmp int_cmp q id) (Some (Some l)) (map.get c.replies q)) whole ∙ now q;
+        map.get-insert int_cmp_total c.replies (id_of body) (Some (c.part ++ piece)) q
+        ∙ ap (λ (l : List ℕ). cond (eq_by_cmp int_cmp q (id_of body)) (Some (Some l)) (map.get c.replies q)) whole ∙ now q;
     all_asked = asked_one n stream.bodies body k.all_asked is;
     took = λ q t. list_any-append (has_id q) stream.bodies (body ∷ []) ∙ ap (λ b. b || list_any (has_id q) (body ∷ [])) (k.took q t);
     place = omega (arith, k.place, ap length whole, frames);
     part = refl;
     missing = (4, front-short least max_body [] (omega arith));
   } where
-    id : ℤ
-    id = id_of body
-
     frames : length (flat_map Frame (stream.bodies ++ body ∷ [])) ≡ length (flat_map Frame stream.bodies) + length (Frame body)
     frames =
         ap length (flat_map-append Frame stream.bodies (body ∷ [])) ∙ length-append (flat_map Frame stream.bodies) (flat_map Frame (body ∷ []))
         ∙ ap (λ (l : List ℕ). length (flat_map Frame stream.bodies) + length l) (append-nil (Frame body))
 
-    no_reply : list_any (has_id id) stream.bodies ≡ false
-    no_reply = false_from_ne_true (list_any (has_id id) stream.bodies) (λ t.
-        false≢true (sym (ap (λ b. was_made n id && not b) t ∙ and_false (was_made n id)) ∙ is)) where
+    no_reply : list_any (has_id (id_of body)) stream.bodies ≡ false
+    no_reply = false_from_ne_true (list_any (has_id (id_of body)) stream.bodies) (λ t.
+        false≢true (sym (ap (λ b. was_made n (id_of body) && not b) t ∙ and_false (was_made n (id_of body))) ∙ is)) where
           and_false : (b : Bool) → (b && false) ≡ false
           and_false true = refl
           and_false false = refl
 
-    not_taken : taken id ≡ false
-    not_taken = false_from_ne_true (taken id) (λ t. false≢true (sym no_reply ∙ k.took id t))
+    not_taken : taken (id_of body) ≡ false
+    not_taken = false_from_ne_true (taken (id_of body)) (λ t. false≢true (sym no_reply ∙ k.took (id_of body) t))
 
-    its : kept_of n (stream.bodies ++ body ∷ []) (taken id) id ≡ Some (Some (Frame body))
+    its : kept_of n (stream.bodies ++ body ∷ []) (taken (id_of body)) (id_of body) ≡ Some (Some (Frame body))
     its =
-        ap (λ was. kept_of n (stream.bodies ++ body ∷ []) was id) not_taken
-        ∙ ap (reply_or n id) (find-append (has_id id) stream.bodies (body ∷ [])
-        ∙ ap (λ (f : Option (List ℕ)). option_or f (find (has_id id) (body ∷ []))) (any_none (has_id id) stream.bodies no_reply)
-        ∙ cond-true (has_id id body) (Some body) None (has_its_id body))
+        ap (λ was. kept_of n (stream.bodies ++ body ∷ []) was (id_of body)) not_taken
+        ∙ ap (reply_or n (id_of body)) (find-append (has_id (id_of body)) stream.bodies (body ∷ [])
+        ∙ ap (λ (f : Option (List ℕ)). option_or f (find (has_id (id_of body)) (body ∷ []))) (any_none (has_id (id_of body)) stream.bodies no_reply)
+        ∙ cond-true (has_id (id_of body) body) (Some body) None (has_its_id body))
 
     or_none : (f : Option (List ℕ)) → option_or f None ≡ f
     or_none None = refl
     or_none (Some x) = refl
 
-    another : (q : ℤ) → (q ≡ id → ⊥) → kept_of n (stream.bodies ++ body ∷ []) (taken q) q ≡ kept_of n stream.bodies (taken q) q
+    another : (q : ℤ) → (q ≡ (id_of body) → ⊥) → kept_of n (stream.bodies ++ body ∷ []) (taken q) q ≡ kept_of n stream.bodies (taken q) q
     another q other =
         let has_not : has_id q body ≡ false = false_from_ne_true (has_id q body) (λ t. other (sym (id_is q body t))) in
         ap (λ (f : Option (List ℕ)). cond (taken q) None (reply_or n q f)) (
@@ -189,14 +186,14 @@ module _ (least n : ℕ) (stream : Cutting) (taken : ℤ → Bool) (c : PendingS
         ∙ ap (option_or (find (has_id q) stream.bodies)) (cond-false (has_id q body) (Some body) None has_not)
         ∙ or_none (find (has_id q) stream.bodies))
 
-    now : (q : ℤ) → cond (eq_by_cmp int_cmp q id) (Some (Some (Frame body))) (map.get c.replies q) ≡ kept_of n (stream.bodies ++ body ∷ []) (taken q) q
-    now q = elim (cases_Bool (eq_by_cmp int_cmp q id)) [
+    now : (q : ℤ) → cond (eq_by_cmp int_cmp q (id_of body)) (Some (Some (Frame body))) (map.get c.replies q) ≡ kept_of n (stream.bodies ++ body ∷ []) (taken q) q
+    now q = elim (cases_Bool (eq_by_cmp int_cmp q (id_of body))) [
       | inl same ↦
-          cond-true (eq_by_cmp int_cmp q id) (Some (Some (Frame body))) (map.get c.replies q) same
-          ∙ sym (ap (λ i. kept_of n (stream.bodies ++ body ∷ []) (taken i) i) (key_is q id same) ∙ its)
+          cond-true (eq_by_cmp int_cmp q (id_of body)) (Some (Some (Frame body))) (map.get c.replies q) same
+          ∙ sym (ap (λ i. kept_of n (stream.bodies ++ body ∷ []) (taken i) i) (key_is q (id_of body) same) ∙ its)
       | inr other ↦
-          cond-false (eq_by_cmp int_cmp q id) (Some (Some (Frame body))) (map.get c.replies q) other
-          ∙ k.calls q ∙ sym (another q (key_is_not q id other))
+          cond-false (eq_by_cmp int_cmp q (id_of body)) (Some (Some (Frame body))) (map.get c.replies q) other
+          ∙ k.calls q ∙ sym (another q (key_is_not q (id_of body) other))
     ]
 
   -- what is taken is forgotten

@@ -7,5 +7,6 @@ pub mod LinkLemmas
 pub mod StandLemmas
 pub mod SubmitLemmas
 pub mod PumpLemmas
+pub mod StartLemmas
 pub mod ReplyLemmas
 mod WorkedRuns

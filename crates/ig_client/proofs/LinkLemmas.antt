@@ -142,20 +142,18 @@ sink_broke start ps p count old new none breaks no_id sends is = record {
       let it : (w : List ℕ) × IsWritten ps w × Appends start.written old.written w = is.written (sends.advances.tells tells) in
       let frames : sent_bytes (ps ++ p ∷ []) ≡ it.0 =
       sent_bytes_more ps p ∙ ap (λ o. sent_bytes ps ++ frame_under p.0 o) no_id ∙ append-nil (sent_bytes ps) ∙ sym (all_sent ps it.0 none it.1.0) in (
-        it.0 ++ take count frame,
+        it.0 ++ take count (Frame (body_of p.0 (pos (sent ps + 1)))),
         (
-          take count frame,
-          drop count frame,
-          ap (λ (l : List ℕ). l ++ take count frame) (sym frames),
-          broken_last 0 ps p none ∙ ap (λ b. cond (breaks_by is_write_fault b) frame []) breaks ∙ sym (take-append-drop count frame),
+          take count (Frame (body_of p.0 (pos (sent ps + 1)))),
+          drop count (Frame (body_of p.0 (pos (sent ps + 1)))),
+          ap (λ (l : List ℕ). l ++ take count (Frame (body_of p.0 (pos (sent ps + 1))))) (sym frames),
+          broken_last 0 ps p none ∙ ap (λ b. cond (breaks_by is_write_fault b) (Frame (body_of p.0 (pos (sent ps + 1)))) []) breaks ∙ sym (take-append-drop count (Frame (body_of p.0 (pos (sent ps + 1))))),
         ),
-        Appends-trans start.written old.written new.written it.0 (take count frame) it.1.1 (sends.advances.written tells),
+        Appends-trans start.written old.written new.written it.0 (take count (Frame (body_of p.0 (pos (sent ps + 1))))) it.1.1 (sends.advances.written tells),
       );
   faults = omega (arith, is.faults, sends.advances.faults);
   holds = λ h. sends.advances.holds (is.holds h);
-} where
-  frame : List ℕ
-  frame = Frame (body_of p.0 (pos (sent ps + 1)))
+}
 
 -- ---- a link that is retired
 

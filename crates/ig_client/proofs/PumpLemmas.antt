@@ -43,6 +43,15 @@ use Rattle.ig_client.proofs.StandLemmas.{Quiet, sent_same, first_same, first_now
 abbrev front_with : ℕ → Cutting → List ℕ → Front
 front_with least stream piece = front least max_body (stream.rest ++ piece)
 
+-- the channel after a frame with this body, if its call waits or if it doesn't
+abbrev by_call : Bool → List ℕ → PendingState → PendingState
+by_call b body c = cond b (with_reply (id_of body) c) (broken (break.Unasked (id_of body)) c)
+
+-- what is kept then
+abbrev Kept : (least n : ℕ) → Cutting → (ℤ → Bool) → PendingState → List ℕ → List ℕ → Bool → List ℕ → Type 0
+Kept least n stream taken c piece body b rest =
+    KeepsCalls least n (record { bodies = stream.bodies ++ body ∷ []; rest = rest }) taken (by_call b body (with_bytes piece c))
+
 -- where the channel doesn't break by a piece, what it keeps grows as the stream's cut does
 filed_calls : (least n : ℕ) (stream : Cutting) (taken : ℤ → Bool) (c : PendingState) (piece : List ℕ) (f : Front) → KeepsCalls least n stream taken c
     → c.down ≡ None → 1 ≤ c.waiting → AreBytes (stream.rest ++ piece)
@@ -60,14 +69,9 @@ filed_calls least n stream taken c piece (Body body rest) k up some are whole at
       ap (λ (l : List ℕ). l ++ piece) k.part ∙ (front-reads least max_body (stream.rest ++ piece) body rest are at).1
       ∙ ap (λ (l : List ℕ). Frame body ++ l) none ∙ append-nil (Frame body)
 
-  Kept : Bool → List ℕ → Type 0
-  Kept b l =
-      KeepsCalls least n (record { bodies = stream.bodies ++ body ∷ []; rest = l }) taken
-      (cond b (with_reply (id_of body) (with_bytes piece c)) (broken (break.Unasked (id_of body)) (with_bytes piece c)))
-
-  go : (b : Bool) → is_waiting (map.get c.replies (id_of body)) ≡ b → Kept (is_waiting (map.get c.replies (id_of body))) rest
+  go : (b : Bool) → is_waiting (map.get c.replies (id_of body)) ≡ b → Kept least n stream taken c piece body (is_waiting (map.get c.replies (id_of body))) rest
   go true waits =
-      subst (λ b. Kept b rest) (sym waits) (subst (Kept true) (sym none)
+      subst (λ b. Kept least n stream taken c piece body b rest) (sym waits) (subst (Kept least n stream taken c piece body true) (sym none)
       (keeps_reply least n stream taken c k piece body spelled some (sym (waits_kept least n stream taken c k (id_of body)) ∙ waits)))
   go false unasked =
       let broke : Some (break.Unasked (id_of body)) ≡ None =
@@ -75,7 +79,7 @@ filed_calls least n stream taken c piece (Body body rest) k up some are whole at
       cc
 
 module _ {L : Type 0} (source : L → SourceState) (sink : L → SinkState) where
-  Stands : PendingState → Option L → ChannelStart → List Pair → Type 0
+  abbrev Stands : PendingState → Option L → ChannelStart → List Pair → Type 0
   Stands c link start ps = ChannelStands source sink c link start ps
 
   -- ---- nothing is read
@@ -133,10 +137,10 @@ module _ {L : Type 0} (source : L → SourceState) (sink : L → SinkState) wher
     none : first_break ps ≡ None
     none = sym s.keeps.down ∙ up
 
-    least : ℕ
+    abbrev least : ℕ
     least = least_of start
 
-    stream : Cutting
+    abbrev stream : Cutting
     stream = cut (least_of start) s.bytes
 
     calls : KeepsCalls (least_of start) (sent ps) (cut (least_of start) s.bytes) (λ q. was_taken q ps) c
@@ -181,26 +185,23 @@ module _ {L : Type 0} (source : L → SourceState) (sink : L → SinkState) wher
         bytes = s.bytes ++ piece;
         last = s.last;
         given_are = sym (given_then s.last);
-        each = λ l e. each_more start l [] ps p (s.each l (before l)) (may_l l);
-        keeps = keeps_unbroken start (s.bytes ++ piece) (ps ++ p ∷ []) (filed piece c)
+        each = λ l e. each_more start l [] ps (ask.Pump, got.Pumped piece) (s.each l (before l)) (may_l l);
+        keeps = keeps_unbroken start (s.bytes ++ piece) (ps ++ (ask.Pump, got.Pumped piece) ∷ []) (filed piece c)
             (ap (λ (n : PendingState). n.least) (filed_is piece) ∙ least_stays (front_with (least_of start) stream piece) ∙ s.keeps.least)
-            (still ∙ sym none ∙ sym (first_same ps p refl))
+            (still ∙ sym none ∙ sym (first_same ps (ask.Pump, got.Pumped piece) refl))
             (are_both s.bytes piece s.keeps.are_bytes bytes)
-            (keeps_alike (least_of start) (sent (ps ++ p ∷ [])) (cut (least_of start) (s.bytes ++ piece)) (λ q. was_taken q ps) (λ q. was_taken q (ps ++ p ∷ [])) (filed piece c)
-            (λ q. taken_same q ps p refl)
-            (subst (λ n. KeepsCalls (least_of start) n (cut (least_of start) (s.bytes ++ piece)) (λ q. was_taken q ps) (filed piece c)) (sym (sent_same ps p refl)) now_kept));
+            (keeps_alike (least_of start) (sent (ps ++ (ask.Pump, got.Pumped piece) ∷ [])) (cut (least_of start) (s.bytes ++ piece)) (λ q. was_taken q ps) (λ q. was_taken q (ps ++ (ask.Pump, got.Pumped piece) ∷ [])) (filed piece c)
+            (λ q. taken_same q ps (ask.Pump, got.Pumped piece) refl)
+            (subst (λ n. KeepsCalls (least_of start) n (cut (least_of start) (s.bytes ++ piece)) (λ q. was_taken q ps) (filed piece c)) (sym (sent_same ps (ask.Pump, got.Pumped piece) refl)) now_kept));
         link_is = (
-          closed_same ps p refl ∙ s.link_is.0,
+          closed_same ps (ask.Pump, got.Pumped piece) refl ∙ s.link_is.0,
           source_after,
-          sink_stays p refl refl,
+          sink_stays (ask.Pump, got.Pumped piece) refl refl,
         );
       } where
-        p : Pair
-        p = (ask.Pump, got.Pumped piece)
-
-        given_then : (l : List ℕ) → given l (ps ++ p ∷ []) ≡ s.bytes ++ piece
+        given_then : (l : List ℕ) → given l (ps ++ (ask.Pump, got.Pumped piece) ∷ []) ≡ s.bytes ++ piece
         given_then l =
-            given_is l (ps ++ p ∷ []) None (pumped ps ++ piece) (first_same ps p refl ∙ none) (pumped_more ps p)
+            given_is l (ps ++ (ask.Pump, got.Pumped piece) ∷ []) None (pumped ps ++ piece) (first_same ps (ask.Pump, got.Pumped piece) refl ∙ none) (pumped_more ps (ask.Pump, got.Pumped piece))
             ∙ ap (λ (b : List ℕ). b ++ piece) (sym are)
 
         before : (l : List ℕ) → s.bytes ≡ given l ps
@@ -226,9 +227,9 @@ module _ {L : Type 0} (source : L → SourceState) (sink : L → SinkState) wher
         not_idle [] h = absurd (omega (arith, h))
         not_idle (b ∷ bs) h = refl
 
-        source_after : SourceIs start (s.bytes ++ piece) (ps ++ p ∷ []) (source k')
+        source_after : SourceIs start (s.bytes ++ piece) (ps ++ (ask.Pump, got.Pumped piece) ∷ []) (source k')
         source_after =
-            source_read start s.bytes ps p (source k) (source k') piece none untold moves (λ t. absurd (false≢true t)) (λ t. absurd (false≢true t))
+            source_read start s.bytes ps (ask.Pump, got.Pumped piece) (source k) (source k') piece none untold moves (λ t. absurd (false≢true t)) (λ t. absurd (false≢true t))
             (inl (omega (arith, steady, not_idle piece some_bytes))) s.link_is.1.0
 
         may_l : (l : List ℕ) → Pumps start l ps (Ok piece)
@@ -254,7 +255,7 @@ module _ {L : Type 0} (source : L → SourceState) (sink : L → SinkState) wher
         given_are = sym (given_then piece);
         each = λ l e.
             let same : piece ≡ l = append_cancel_left s.bytes piece l (e ∙ given_then l) in
-            each_more start l [] ps p (s.each l (before l)) (waits l (before l), subst (λ (m : List ℕ). PumpBreaks start m ps cause) same why);
+            each_more start l [] ps (ask.Pump, got.NotPumped (fault.Broke cause)) (s.each l (before l)) (waits l (before l), subst (λ (m : List ℕ). PumpBreaks start m ps cause) same why);
         keeps = record {
           least = same_least ∙ s.keeps.least;
           down = down ∙ sym breaks;
@@ -262,31 +263,28 @@ module _ {L : Type 0} (source : L → SourceState) (sink : L → SinkState) wher
               same_replies q
               ∙ replies_kept (least_of start) (sent ps) stream (λ i. was_taken i ps) c calls q
               ∙ ap (λ (l : List (List ℕ)). reply_among l (was_taken q ps) q) (sym same_asked)
-              ∙ sym (ap (λ n. reply_among (asked n (cut (least_of start) (s.bytes ++ piece)).bodies) (was_taken q (ps ++ p ∷ [])) q) (sent_same ps p refl)
-              ∙ ap (λ b. reply_among (asked (sent ps) (cut (least_of start) (s.bytes ++ piece)).bodies) b q) (taken_same q ps p refl));
+              ∙ sym (ap (λ n. reply_among (asked n (cut (least_of start) (s.bytes ++ piece)).bodies) (was_taken q (ps ++ (ask.Pump, got.NotPumped (fault.Broke cause)) ∷ [])) q) (sent_same ps (ask.Pump, got.NotPumped (fault.Broke cause)) refl)
+              ∙ ap (λ b. reply_among (asked (sent ps) (cut (least_of start) (s.bytes ++ piece)).bodies) b q) (taken_same q ps (ask.Pump, got.NotPumped (fault.Broke cause)) refl));
           calls = λ still. let both : Some cause ≡ None = sym breaks ∙ still in cc;
           are_bytes = are_both s.bytes piece s.keeps.are_bytes bytes;
         };
         link_is = (
-          closed_same ps p refl ∙ s.link_is.0,
-          source_read start s.bytes ps p (source k) (source k') piece none untold moves
+          closed_same ps (ask.Pump, got.NotPumped (fault.Broke cause)) refl ∙ s.link_is.0,
+          source_read start s.bytes ps (ask.Pump, got.NotPumped (fault.Broke cause)) (source k) (source k') piece none untold moves
               (λ t. absurd (not_read cause of_frames t)) (λ t. absurd (not_end cause of_frames t))
               (inl (omega (arith, steady))) s.link_is.1.0,
-          sink_stays p (not_write cause of_frames) refl,
+          sink_stays (ask.Pump, got.NotPumped (fault.Broke cause)) (not_write cause of_frames) refl,
         );
       } where
-        p : Pair
-        p = (ask.Pump, got.NotPumped (fault.Broke cause))
-
-        breaks : first_break (ps ++ p ∷ []) ≡ Some cause
-        breaks = first_now ps p cause none refl
+        breaks : first_break (ps ++ (ask.Pump, got.NotPumped (fault.Broke cause)) ∷ []) ≡ Some cause
+        breaks = first_now ps (ask.Pump, got.NotPumped (fault.Broke cause)) cause none refl
 
         before : (l : List ℕ) → s.bytes ≡ given l ps
         before l = are ∙ sym (given_open l ps none)
 
-        given_then : (l : List ℕ) → given l (ps ++ p ∷ []) ≡ s.bytes ++ l
+        given_then : (l : List ℕ) → given l (ps ++ (ask.Pump, got.NotPumped (fault.Broke cause)) ∷ []) ≡ s.bytes ++ l
         given_then l =
-            given_is l (ps ++ p ∷ []) (Some cause) (pumped ps) breaks (pumped_same ps p refl)
+            given_is l (ps ++ (ask.Pump, got.NotPumped (fault.Broke cause)) ∷ []) (Some cause) (pumped ps) breaks (pumped_same ps (ask.Pump, got.NotPumped (fault.Broke cause)) refl)
             ∙ cond-true (is_of_frames (Some cause)) (pumped ps ++ l) (pumped ps) of_frames ∙ ap (λ (b : List ℕ). b ++ l) (sym are)
 
         not_read : (cause : Break) → is_of_frames (Some cause) ≡ true → is_read_fault cause ≡ true → ⊥
@@ -324,48 +322,42 @@ module _ {L : Type 0} (source : L → SourceState) (sink : L → SinkState) wher
         given_are = s.given_are ∙ sym (given_then s.last);
         each = λ l e.
             let before : s.bytes ≡ given l ps = e ∙ given_then l in
-            each_more start l [] ps p (s.each l before) (waits l before, why l);
+            each_more start l [] ps (ask.Pump, got.NotPumped (fault.Broke cause)) (s.each l before) (waits l before, why l);
         keeps = record {
           least = s.keeps.least;
           down = sym breaks;
           replies = λ q.
               s.keeps.replies q
-              ∙ sym (ap (λ n. reply_among (asked n stream.bodies) (was_taken q (ps ++ p ∷ [])) q) (sent_same ps p refl)
-              ∙ ap (λ b. reply_among (filed_bodies start s.bytes ps) b q) (taken_same q ps p refl));
+              ∙ sym (ap (λ n. reply_among (asked n stream.bodies) (was_taken q (ps ++ (ask.Pump, got.NotPumped (fault.Broke cause)) ∷ [])) q) (sent_same ps (ask.Pump, got.NotPumped (fault.Broke cause)) refl)
+              ∙ ap (λ b. reply_among (filed_bodies start s.bytes ps) b q) (taken_same q ps (ask.Pump, got.NotPumped (fault.Broke cause)) refl));
           calls = λ still. let both : Some cause ≡ None = sym breaks ∙ still in cc;
           are_bytes = s.keeps.are_bytes;
         };
         link_is = (
-          closed_same ps p refl ∙ s.link_is.0,
-          subst (λ (bytes : List ℕ). SourceIs start bytes (ps ++ p ∷ []) (source k')) (append-nil s.bytes)
-              (source_read start s.bytes ps p (source k) (source k') [] none untold moves faults ends (inl (omega (arith, steady))) s.link_is.1.0),
-          sink_stays p no_write refl,
+          closed_same ps (ask.Pump, got.NotPumped (fault.Broke cause)) refl ∙ s.link_is.0,
+          subst (λ (bytes : List ℕ). SourceIs start bytes (ps ++ (ask.Pump, got.NotPumped (fault.Broke cause)) ∷ []) (source k')) (append-nil s.bytes)
+              (source_read start s.bytes ps (ask.Pump, got.NotPumped (fault.Broke cause)) (source k) (source k') [] none untold moves faults ends (inl (omega (arith, steady))) s.link_is.1.0),
+          sink_stays (ask.Pump, got.NotPumped (fault.Broke cause)) no_write refl,
         );
       } where
-        p : Pair
-        p = (ask.Pump, got.NotPumped (fault.Broke cause))
+        breaks : first_break (ps ++ (ask.Pump, got.NotPumped (fault.Broke cause)) ∷ []) ≡ Some cause
+        breaks = first_now ps (ask.Pump, got.NotPumped (fault.Broke cause)) cause none refl
 
-        breaks : first_break (ps ++ p ∷ []) ≡ Some cause
-        breaks = first_now ps p cause none refl
-
-        given_then : (l : List ℕ) → given l (ps ++ p ∷ []) ≡ given l ps
+        given_then : (l : List ℕ) → given l (ps ++ (ask.Pump, got.NotPumped (fault.Broke cause)) ∷ []) ≡ given l ps
         given_then l =
-            given_is l (ps ++ p ∷ []) (Some cause) (pumped ps) breaks (pumped_same ps p refl)
+            given_is l (ps ++ (ask.Pump, got.NotPumped (fault.Broke cause)) ∷ []) (Some cause) (pumped ps) breaks (pumped_same ps (ask.Pump, got.NotPumped (fault.Broke cause)) refl)
             ∙ cond-false (is_of_frames (Some cause)) (pumped ps ++ l) (pumped ps) no_frames ∙ sym (given_open l ps none)
 
       -- nothing was there yet
       stands_paused : ReadPause (source k) (source k') → Stands c (Some k') start (ps ++ (ask.Pump, got.Pumped []) ∷ [])
       stands_paused paused =
-          stands_over source sink start ps p c c (Some k) (Some k') nothing_is_quiet s (may_give_nothing c k start ps s up) s.keeps (
-            closed_same ps p refl ∙ s.link_is.0,
-            subst (λ (bytes : List ℕ). SourceIs start bytes (ps ++ p ∷ []) (source k')) (append-nil s.bytes)
-                (source_read start s.bytes ps p (source k) (source k') [] none untold paused.advances (λ t. absurd (false≢true t)) (λ t. absurd (false≢true t))
+          stands_over source sink start ps (ask.Pump, got.Pumped []) c c (Some k) (Some k') nothing_is_quiet s (may_give_nothing c k start ps s up) s.keeps (
+            closed_same ps (ask.Pump, got.Pumped []) refl ∙ s.link_is.0,
+            subst (λ (bytes : List ℕ). SourceIs start bytes (ps ++ (ask.Pump, got.Pumped []) ∷ []) (source k')) (append-nil s.bytes)
+                (source_read start s.bytes ps (ask.Pump, got.Pumped []) (source k) (source k') [] none untold paused.advances (λ t. absurd (false≢true t)) (λ t. absurd (false≢true t))
                 (counted paused.rose (idle start ps (got.Pumped [])) (at_most_one (nat_lt (length (asked (sent ps) (cut (least_of start) (pumped ps)).bodies)) (sent ps)))) s.link_is.1.0),
-            sink_stays p refl refl,
+            sink_stays (ask.Pump, got.Pumped []) refl refl,
           ) where
-            p : Pair
-            p = (ask.Pump, got.Pumped [])
-
             at_most_one : (b : Bool) → cond b 1 0 ≤ 1
             at_most_one true = omega arith
             at_most_one false = omega arith
@@ -380,11 +372,8 @@ module _ {L : Type 0} (source : L → SourceState) (sink : L → SinkState) wher
           → (source k').pauses ≡ (source k).pauses → (filed piece c).down ≡ Some cause
           → Stands (filed piece c) (Some k') start (ps ++ (ask.Pump, got.NotPumped (fault.Broke cause)) ∷ [])
       stands_filed_broke piece cause bytes some_bytes within moves steady down =
-          subst (λ (n : PendingState). Stands n (Some k') start (ps ++ p ∷ [])) (sym (filed_is piece))
+          subst (λ (n : PendingState). Stands n (Some k') start (ps ++ (ask.Pump, got.NotPumped (fault.Broke cause)) ∷ [])) (sym (filed_is piece))
           (go (front_with (least_of start) stream piece) refl (sym (ap (λ (n : PendingState). n.down) (filed_is piece)) ∙ down)) where
-            p : Pair
-            p = (ask.Pump, got.NotPumped (fault.Broke cause))
-
             given_now : IsGiven start.left (pumped ps ++ piece)
             given_now =
                 given_of start.left (source k').left (pumped ps ++ piece) (subst (Consumes start.left (source k').left) (ap (λ (b : List ℕ). b ++ piece) are)
@@ -394,7 +383,7 @@ module _ {L : Type 0} (source : L → SourceState) (sink : L → SinkState) wher
             cut_is f at = grows piece some_bytes within ∙ ap (with_rest stream.bodies (stream.rest ++ piece)) at
 
             go : (f : Front) → front_with (least_of start) stream piece ≡ f → (with_front f (with_bytes piece c)).down ≡ Some cause
-                → Stands (with_front f (with_bytes piece c)) (Some k') start (ps ++ p ∷ [])
+                → Stands (with_front f (with_bytes piece c)) (Some k') start (ps ++ (ask.Pump, got.NotPumped (fault.Broke cause)) ∷ [])
             go (Incomplete m) at broke = let both : None ≡ Some cause = sym up ∙ broke in cc
             go (Bad z) at broke =
                 let is : break.BadFrame c.place z ≡ cause = cc in
@@ -408,13 +397,10 @@ module _ {L : Type 0} (source : L → SourceState) (sink : L → SinkState) wher
                 subst (λ (b : Break). Stands (with_front (Bad z) (with_bytes piece c)) (Some k') start (ps ++ (ask.Pump, got.NotPumped (fault.Broke b)) ∷ [])) is
                 (stands_frames_broke piece (break.BadFrame c.place z) (with_front (Bad z) (with_bytes piece c)) bytes moves steady refl why refl refl (λ q. refl)
                 (ap (λ (m : Cutting). asked (sent ps) m.bodies) grown ∙ calls.all_asked))
-            go (Body body rest) at broke = by_call (is_waiting (map.get c.replies (id_of body))) refl broke where
-              Now : Bool → PendingState
-              Now b = cond b (with_reply (id_of body) (with_bytes piece c)) (broken (break.Unasked (id_of body)) (with_bytes piece c))
-
-              by_call : (b : Bool) → is_waiting (map.get c.replies (id_of body)) ≡ b → (Now b).down ≡ Some cause → Stands (Now b) (Some k') start (ps ++ p ∷ [])
-              by_call true waits broke = let both : None ≡ Some cause = sym up ∙ broke in cc
-              by_call false unasked broke =
+            go (Body body rest) at broke = decided (is_waiting (map.get c.replies (id_of body))) refl broke where
+              decided : (b : Bool) → is_waiting (map.get c.replies (id_of body)) ≡ b → (by_call b body (with_bytes piece c)).down ≡ Some cause → Stands (by_call b body (with_bytes piece c)) (Some k') start (ps ++ (ask.Pump, got.NotPumped (fault.Broke cause)) ∷ [])
+              decided true waits broke = let both : None ≡ Some cause = sym up ∙ broke in cc
+              decided false unasked broke =
                   let is : break.Unasked (id_of body) ≡ cause = cc in
                   let grown : cut (least_of start) (s.bytes ++ piece) ≡ record { bodies = stream.bodies ++ body ∷ []; rest = rest } = cut_is (Body body rest) at in
                   let stops : asked (sent ps) (stream.bodies ++ body ∷ []) ≡ stream.bodies =
@@ -425,8 +411,8 @@ module _ {L : Type 0} (source : L → SourceState) (sink : L → SinkState) wher
                         (body, [], ap (λ (l : List (List ℕ)). l ++ body ∷ []) (sym stops), refl)),
                     given_now,
                   ) in
-                  subst (λ (b : Break). Stands (Now false) (Some k') start (ps ++ (ask.Pump, got.NotPumped (fault.Broke b)) ∷ [])) is
-                  (stands_frames_broke piece (break.Unasked (id_of body)) (Now false) bytes moves steady refl why refl refl (λ q. refl)
+                  subst (λ (b : Break). Stands (by_call false body (with_bytes piece c)) (Some k') start (ps ++ (ask.Pump, got.NotPumped (fault.Broke b)) ∷ [])) is
+                  (stands_frames_broke piece (break.Unasked (id_of body)) (by_call false body (with_bytes piece c)) bytes moves steady refl why refl refl (λ q. refl)
                   (ap (λ (m : Cutting). asked (sent ps) m.bodies) grown ∙ stops))
 
   -- ---- a pump that reads
@@ -466,3 +452,58 @@ module _ {L : Type 0} (source : L → SourceState) (sink : L → SinkState) wher
         failed : (b : Bool) → (b ≡ true → (source k).holds ≡ true) → b ≡ false
         failed true so = absurd (false≢true (sym reads.holds_not ∙ so refl))
         failed false so = refl
+
+  -- ---- the steps of a pump together
+
+  -- no room for a read was taken
+  pub stands_unread : (old new : PendingState) (link : Option L) (cause : ChannelFault) → steps.TakesRoom old new (Err cause)
+      → Gains (Stands old link) (Stands new link) (pump_pair (Err cause))
+  stands_unread old new link (fault.Down cause) is =
+      subst (λ (m : PendingState). Gains (Stands old link) (Stands m link) (Some (ask.Pump, got.NotPumped (fault.Down cause)))) (sym is.1) (stands_down old link cause is.0)
+  stands_unread old new link fault.NoMemory is = λ start ps s. elim is.1.1 [
+    | inl same ↦ subst (λ (m : PendingState). Stands m link start ps) (sym same) s
+    | inr room ↦ subst (λ (m : PendingState). Stands m link start ps) (sym room) (stands_room old link start ps s)
+  ]
+  stands_unread old new link (fault.Broke cause) is = absurd is
+  stands_unread old new link (fault.BadReply place) is = absurd is
+  stands_unread old new link fault.TooLong is = absurd is
+  stands_unread old new link fault.Full is = absurd is
+  stands_unread old new link fault.Spent is = absurd is
+
+  -- there is nothing to read
+  pub stands_empty : (old new : PendingState) (link : Option L) (piece : List ℕ) → steps.TakesRoom old new (Ok piece) → length piece ≡ 0
+      → Gains (Stands old link) (Stands new link) (pump_pair (Ok piece))
+  stands_empty old new link piece room empty = elim room.1 [
+    | inl idle ↦
+        subst (λ (m : PendingState). Gains (Stands old link) (Stands m link) (pump_pair (Ok piece))) (sym idle.1.1)
+        (subst (λ (l : List ℕ). Gains (Stands old link) (Stands old link) (pump_pair (Ok l))) (sym idle.1.0) (stands_idle old link room.0 idle.0))
+    | inr some ↦ absurd (omega (arith, some.1.1.0, empty))
+  ]
+
+  -- the link is there while the channel hasn't broken
+  pub stands_linkless : (old new : PendingState) (piece : List ℕ) (result : Result (List ℕ) ChannelFault) → steps.TakesRoom old new (Ok piece)
+      → result ≡ Err (fault.Down break.Closed) → Gains (Stands old None) (Stands new None) (pump_pair result)
+  stands_linkless old new piece result room is =
+      subst (λ (r : Result (List ℕ) ChannelFault). Gains (Stands old None) (Stands new None) (pump_pair r)) (sym is)
+      (λ start ps s. absurd (false≢true (sym (open_is_unclosed ps (sym s.keeps.down ∙ room.0)) ∙ s.link_is)))
+
+  -- the room that was taken
+  pub room_is : (old mid : PendingState) (piece : List ℕ) → steps.TakesRoom old mid (Ok piece) → 1 ≤ length piece
+      → (1 ≤ old.waiting) × (mid ≡ with_room old) × (length piece ≡ next_read old)
+  room_is old mid piece room some = elim room.1 [
+    | inl idle ↦ absurd (omega (arith, ap length idle.1.0, some))
+    | inr is ↦ (is.0, is.1.1.1, is.1.0)
+  ]
+
+  gains_after : (A B C : ChannelStart → List Pair → Type 0) (pair : Option Pair) → ((start : ChannelStart) (ps : List Pair) → A start ps → B start ps) → Gains B C pair → Gains A C pair
+  gains_after A B C None first then start ps a = then start ps (first start ps a)
+  gains_after A B C (Some p) first then start ps a = then start ps (first start ps a)
+
+  pub stands_read : (old mid new : PendingState) (k k' : L) (answer : TakeNow) (piece buf : List ℕ) (result : Result (List ℕ) ChannelFault)
+      → steps.TakesRoom old mid (Ok piece) → 1 ≤ length piece → length buf ≡ length piece → AreBytes buf → (source k).stays_untold ≡ true → sink k' ≡ sink k
+      → ReadsNowAs answer (source k) (source k') buf → steps.Files answer buf mid new result → Gains (Stands old (Some k)) (Stands new (Some k')) (pump_pair result)
+  stands_read old mid new k k' answer piece buf result room some size are untold same reads files =
+      let it : (1 ≤ old.waiting) × (mid ≡ with_room old) × (length piece ≡ next_read old) = room_is old mid piece room some in
+      gains_after (Stands old (Some k)) (Stands (with_room old) (Some k)) (Stands new (Some k')) (pump_pair result) (stands_room old (Some k))
+      (stands_pump (with_room old) new k k' answer buf result room.0 it.0 (size ∙ it.1.1) are untold same reads
+      (subst (λ (m : PendingState). steps.Files answer buf m new result) it.1.0 files))

@@ -157,37 +157,34 @@ module _ {L : Type 0} (source : L → SourceState) (sink : L → SinkState) wher
   stands_take id c link (Some frame) is start ps s = record {
     bytes = s.bytes;
     last = s.last;
-    given_are = s.given_are ∙ sym (given_same s.last ps p refl refl);
+    given_are = s.given_are ∙ sym (given_same s.last ps (ask.Take id, got.Taken (Some frame)) refl refl);
     each = λ l e.
-        let before : s.bytes ≡ given l ps = e ∙ given_same l ps p refl refl in
-        each_more start l [] ps p (s.each l before)
+        let before : s.bytes ≡ given l ps = e ∙ given_same l ps (ask.Take id, got.Taken (Some frame)) refl refl in
+        each_more start l [] ps (ask.Take id, got.Taken (Some frame)) (s.each l before)
         (sym is ∙ s.keeps.replies id ∙ ap (λ (bytes : List ℕ). reply_among (filed_bodies start bytes ps) (was_taken id ps) id) before);
     keeps = record {
       least = s.keeps.least;
-      down = s.keeps.down ∙ sym (first_same ps p refl);
+      down = s.keeps.down ∙ sym (first_same ps (ask.Take id, got.Taken (Some frame)) refl);
       replies = λ q.
           replies_after (filed_bodies start s.bytes ps) (λ i. was_taken i ps) c id frame is s.keeps.replies q
-          ∙ sym (ap (λ n. reply_among (asked n (cut (least_of start) s.bytes).bodies) (was_taken q (ps ++ p ∷ [])) q) (sent_same ps p refl)
-          ∙ ap (λ b. reply_among (filed_bodies start s.bytes ps) b q) (taken_more q ps p));
+          ∙ sym (ap (λ n. reply_among (asked n (cut (least_of start) s.bytes).bodies) (was_taken q (ps ++ (ask.Take id, got.Taken (Some frame)) ∷ [])) q) (sent_same ps (ask.Take id, got.Taken (Some frame)) refl)
+          ∙ ap (λ b. reply_among (filed_bodies start s.bytes ps) b q) (taken_more q ps (ask.Take id, got.Taken (Some frame))));
       calls = λ none.
-          keeps_alike (least_of start) (sent (ps ++ p ∷ [])) (cut (least_of start) s.bytes) (λ q. was_taken q ps || int_eq id q) (λ q. was_taken q (ps ++ p ∷ [])) (after_take id c)
-          (λ q. taken_more q ps p)
-          (subst (λ n. KeepsCalls (least_of start) n (cut (least_of start) s.bytes) (λ q. was_taken q ps || int_eq id q) (after_take id c)) (sym (sent_same ps p refl))
-          (keeps_take (least_of start) (sent ps) (cut (least_of start) s.bytes) (λ q. was_taken q ps) c (s.keeps.calls (sym (first_same ps p refl) ∙ none)) id frame is));
+          keeps_alike (least_of start) (sent (ps ++ (ask.Take id, got.Taken (Some frame)) ∷ [])) (cut (least_of start) s.bytes) (λ q. was_taken q ps || int_eq id q) (λ q. was_taken q (ps ++ (ask.Take id, got.Taken (Some frame)) ∷ [])) (after_take id c)
+          (λ q. taken_more q ps (ask.Take id, got.Taken (Some frame)))
+          (subst (λ n. KeepsCalls (least_of start) n (cut (least_of start) s.bytes) (λ q. was_taken q ps || int_eq id q) (after_take id c)) (sym (sent_same ps (ask.Take id, got.Taken (Some frame)) refl))
+          (keeps_take (least_of start) (sent ps) (cut (least_of start) s.bytes) (λ q. was_taken q ps) c (s.keeps.calls (sym (first_same ps (ask.Take id, got.Taken (Some frame)) refl) ∙ none)) id frame is));
       are_bytes = s.keeps.are_bytes;
     };
     link_is = link_same link s.link_is;
   } where
-    p : Pair
-    p = (ask.Take id, got.Taken (Some frame))
-
-    link_same : (link : Option L) → LinkStands source sink start s.bytes ps link → LinkStands source sink start s.bytes (ps ++ p ∷ []) link
+    link_same : (link : Option L) → LinkStands source sink start s.bytes ps link → LinkStands source sink start s.bytes (ps ++ (ask.Take id, got.Taken (Some frame)) ∷ []) link
     link_same (Some k) h = (
-      closed_same ps p refl ∙ h.0,
-      source_same start s.bytes ps p (source k) refl refl refl h.1.0,
-      sink_same start ps p (sink k) refl refl h.1.1,
+      closed_same ps (ask.Take id, got.Taken (Some frame)) refl ∙ h.0,
+      source_same start s.bytes ps (ask.Take id, got.Taken (Some frame)) (source k) refl refl refl h.1.0,
+      sink_same start ps (ask.Take id, got.Taken (Some frame)) (sink k) refl refl h.1.1,
     )
-    link_same None h = closed_same ps p refl ∙ h
+    link_same None h = closed_same ps (ask.Take id, got.Taken (Some frame)) refl ∙ h
 
   -- ---- a close
 
@@ -201,17 +198,14 @@ module _ {L : Type 0} (source : L → SourceState) (sink : L → SinkState) wher
     given_are = s.given_are ∙ sym (given_then s.last);
     each = λ l e.
         let before : s.bytes ≡ given l ps = e ∙ given_then l in
-        each_more start l [] ps p (s.each l before) (
+        each_more start l [] ps (ask.Close, got.Closed (Some shown)) (s.each l before) (
           s.link_is.0,
           subst (λ (bytes : List ℕ). ShownSince start shown bytes ps) before
               (shown_since start s.bytes ps (source link) (sink link) shown s.link_is.1.0 s.link_is.1.1 shows),
         );
     keeps = kept c.down refl;
-    link_is = closed_more ps p ∙ or_true (was_closed ps);
+    link_is = closed_more ps (ask.Close, got.Closed (Some shown)) ∙ or_true (was_closed ps);
   } where
-    p : Pair
-    p = (ask.Close, got.Closed (Some shown))
-
     or_true : (b : Bool) → (b || true) ≡ true
     or_true true = refl
     or_true false = refl
@@ -220,25 +214,25 @@ module _ {L : Type 0} (source : L → SourceState) (sink : L → SinkState) wher
     of_frames None = refl
     of_frames (Some cause) = refl
 
-    given_then : (l : List ℕ) → given l (ps ++ p ∷ []) ≡ given l ps
+    given_then : (l : List ℕ) → given l (ps ++ (ask.Close, got.Closed (Some shown)) ∷ []) ≡ given l ps
     given_then l =
-        given_is l (ps ++ p ∷ []) (option_or (first_break ps) (Some Closed)) (pumped ps) (first_break_more ps p) (pumped_same ps p refl)
+        given_is l (ps ++ (ask.Close, got.Closed (Some shown)) ∷ []) (option_or (first_break ps) (Some Closed)) (pumped ps) (first_break_more ps (ask.Close, got.Closed (Some shown))) (pumped_same ps (ask.Close, got.Closed (Some shown)) refl)
         ∙ ap (λ b. cond b (pumped ps ++ l) (pumped ps)) (of_frames (first_break ps))
 
-    replies_then : (q : ℤ) → reply_to q c ≡ reply_among (filed_bodies start s.bytes (ps ++ p ∷ [])) (was_taken q (ps ++ p ∷ [])) q
+    replies_then : (q : ℤ) → reply_to q c ≡ reply_among (filed_bodies start s.bytes (ps ++ (ask.Close, got.Closed (Some shown)) ∷ [])) (was_taken q (ps ++ (ask.Close, got.Closed (Some shown)) ∷ [])) q
     replies_then q =
         s.keeps.replies q
-        ∙ sym (ap (λ n. reply_among (asked n (cut (least_of start) s.bytes).bodies) (was_taken q (ps ++ p ∷ [])) q) (sent_same ps p refl)
-        ∙ ap (λ b. reply_among (filed_bodies start s.bytes ps) b q) (taken_same q ps p refl))
+        ∙ sym (ap (λ n. reply_among (asked n (cut (least_of start) s.bytes).bodies) (was_taken q (ps ++ (ask.Close, got.Closed (Some shown)) ∷ [])) q) (sent_same ps (ask.Close, got.Closed (Some shown)) refl)
+        ∙ ap (λ b. reply_among (filed_bodies start s.bytes ps) b q) (taken_same q ps (ask.Close, got.Closed (Some shown)) refl))
 
-    never : (cause : Break) → first_break (ps ++ p ∷ []) ≡ Some cause → first_break (ps ++ p ∷ []) ≡ None
-        → KeepsCalls (least_of start) (sent (ps ++ p ∷ [])) (cut (least_of start) s.bytes) (λ id. was_taken id (ps ++ p ∷ [])) new
+    never : (cause : Break) → first_break (ps ++ (ask.Close, got.Closed (Some shown)) ∷ []) ≡ Some cause → first_break (ps ++ (ask.Close, got.Closed (Some shown)) ∷ []) ≡ None
+        → KeepsCalls (least_of start) (sent (ps ++ (ask.Close, got.Closed (Some shown)) ∷ [])) (cut (least_of start) s.bytes) (λ id. was_taken id (ps ++ (ask.Close, got.Closed (Some shown)) ∷ [])) new
     never cause some none = let both : Some cause ≡ None = sym some ∙ none in cc
 
-    kept : (d : Option Break) → c.down ≡ d → Keeps start s.bytes (ps ++ p ∷ []) new
+    kept : (d : Option Break) → c.down ≡ d → Keeps start s.bytes (ps ++ (ask.Close, got.Closed (Some shown)) ∷ []) new
     kept None is =
         let now : new ≡ broken Closed c = first is in
-        let breaks : first_break (ps ++ p ∷ []) ≡ Some Closed = first_now ps p Closed (sym s.keeps.down ∙ is) refl in
+        let breaks : first_break (ps ++ (ask.Close, got.Closed (Some shown)) ∷ []) ≡ Some Closed = first_now ps (ask.Close, got.Closed (Some shown)) Closed (sym s.keeps.down ∙ is) refl in
         record {
           least = ap (λ (n : PendingState). n.least) now ∙ s.keeps.least;
           down = ap (λ (n : PendingState). n.down) now ∙ sym breaks;
@@ -248,7 +242,7 @@ module _ {L : Type 0} (source : L → SourceState) (sink : L → SinkState) wher
         }
     kept (Some cause) is =
         let now : new ≡ c = later cause is in
-        let breaks : first_break (ps ++ p ∷ []) ≡ Some cause = first_break_more ps p ∙ ap (λ b. option_or b (Some Closed)) (sym s.keeps.down ∙ is) in
+        let breaks : first_break (ps ++ (ask.Close, got.Closed (Some shown)) ∷ []) ≡ Some cause = first_break_more ps (ask.Close, got.Closed (Some shown)) ∙ ap (λ b. option_or b (Some Closed)) (sym s.keeps.down ∙ is) in
         record {
           least = ap (λ (n : PendingState). n.least) now ∙ s.keeps.least;
           down = ap (λ (n : PendingState). n.down) now ∙ is ∙ sym breaks;

@@ -136,7 +136,7 @@ parts_are_submit caches = record {
   breaks fault.NoMemory = refl
 
 module _ {L : Type 0} (source : L → SourceState) (sink : L → SinkState) (asks : ChannelAsk) (refused : ChannelFault → GotData) (it : IsSubmit asks refused) where
-  Stands : PendingState → Option L → ChannelStart → List Pair → Type 0
+  abbrev Stands : PendingState → Option L → ChannelStart → List Pair → Type 0
   Stands c link start ps = ChannelStands source sink c link start ps
 
   -- ---- refused before its frame is written
@@ -192,22 +192,20 @@ module _ {L : Type 0} (source : L → SourceState) (sink : L → SinkState) (ask
     stands_sent k k' moves same start ps s = record {
       bytes = s.bytes;
       last = s.last;
-      given_are = s.given_are ∙ sym (given_same s.last ps p refl refl);
+      given_are = s.given_are ∙ sym (given_same s.last ps (asks, got.Sent id) refl refl);
       each = λ l e.
-          let before : s.bytes ≡ given l ps = e ∙ given_same l ps p refl refl in
-          each_more start l [] ps p (s.each l before) (it.sent_may start l ps id (outcome_over c (Some k) start ps (Ok id) s l before is));
-      keeps = keeps_unbroken start s.bytes (ps ++ p ∷ []) (with_call c) s.keeps.least (s.keeps.down ∙ sym (first_same ps p refl)) s.keeps.are_bytes
-          (keeps_alike (least_of start) (sent (ps ++ p ∷ [])) (cut (least_of start) s.bytes) (λ q. was_taken q ps) (λ q. was_taken q (ps ++ p ∷ [])) (with_call c)
-          (λ q. taken_same q ps p (it.no_take q (got.Sent id)))
-          (subst (λ n. KeepsCalls (least_of start) n (cut (least_of start) s.bytes) (λ q. was_taken q ps) (with_call c)) (sym (sent_more ps p)) (one_more (Some k) start ps s)));
+          let before : s.bytes ≡ given l ps = e ∙ given_same l ps (asks, got.Sent id) refl refl in
+          each_more start l [] ps (asks, got.Sent id) (s.each l before) (it.sent_may start l ps id (outcome_over c (Some k) start ps (Ok id) s l before is));
+      keeps = keeps_unbroken start s.bytes (ps ++ (asks, got.Sent id) ∷ []) (with_call c) s.keeps.least (s.keeps.down ∙ sym (first_same ps (asks, got.Sent id) refl)) s.keeps.are_bytes
+          (keeps_alike (least_of start) (sent (ps ++ (asks, got.Sent id) ∷ [])) (cut (least_of start) s.bytes) (λ q. was_taken q ps) (λ q. was_taken q (ps ++ (asks, got.Sent id) ∷ [])) (with_call c)
+          (λ q. taken_same q ps (asks, got.Sent id) (it.no_take q (got.Sent id)))
+          (subst (λ n. KeepsCalls (least_of start) n (cut (least_of start) s.bytes) (λ q. was_taken q ps) (with_call c)) (sym (sent_more ps (asks, got.Sent id))) (one_more (Some k) start ps s)));
       link_is = (
-        closed_same ps p refl ∙ s.link_is.0,
-        subst (SourceIs start s.bytes (ps ++ p ∷ [])) (sym same) (source_same start s.bytes ps p (source k) refl refl refl s.link_is.1.0),
-        sink_sent start ps p id (sink k) (sink k') (none (Some k) start ps s) refl refl moves s.link_is.1.1,
+        closed_same ps (asks, got.Sent id) refl ∙ s.link_is.0,
+        subst (SourceIs start s.bytes (ps ++ (asks, got.Sent id) ∷ [])) (sym same) (source_same start s.bytes ps (asks, got.Sent id) (source k) refl refl refl s.link_is.1.0),
+        sink_sent start ps (asks, got.Sent id) id (sink k) (sink k') (none (Some k) start ps s) refl refl moves s.link_is.1.1,
       );
-    } where
-      p : Pair
-      p = (asks, got.Sent id)
+    }
 
     stands_broken : (k k' : L) (count : ℕ) → SentPart count (sink k) (sink k') (Frame (body_of asks id)) → source k' ≡ source k
         → Gains (Stands c (Some k)) (Stands (broken WriteFault (with_call c)) (Some k')) (Some (asks, refused (fault.Broke WriteFault)))
@@ -218,7 +216,7 @@ module _ {L : Type 0} (source : L → SourceState) (sink : L → SinkState) (ask
       each = λ l e.
           let before : s.bytes ≡ given l ps = e ∙ given_then l in
           let made : outcome start (given l ps) ps asks ≡ Ok id = outcome_over c (Some k) start ps (Ok id) s l before is in
-          each_more start l [] ps p (s.each l before)
+          each_more start l [] ps (asks, refused (fault.Broke WriteFault)) (s.each l before)
           (it.refused_may start l ps (fault.Broke WriteFault) (subst IsOk (sym made) tt, failed));
       keeps = record {
         least = s.keeps.least;
@@ -226,34 +224,31 @@ module _ {L : Type 0} (source : L → SourceState) (sink : L → SinkState) (ask
         replies = λ q.
             replies_kept (least_of start) (sent ps + 1) (cut (least_of start) s.bytes) (λ i. was_taken i ps) (with_call c) (one_more (Some k) start ps s) q
             ∙ ap (λ (l : List (List ℕ)). reply_among l (was_taken q ps) q) (sym (calls (Some k) start ps s).all_asked)
-            ∙ sym (ap (λ n. reply_among (asked n (cut (least_of start) s.bytes).bodies) (was_taken q (ps ++ p ∷ [])) q) (sent_same ps p (it.no_id (fault.Broke WriteFault)))
-            ∙ ap (λ b. reply_among (filed_bodies start s.bytes ps) b q) (taken_same q ps p (it.no_take q (refused (fault.Broke WriteFault)))));
+            ∙ sym (ap (λ n. reply_among (asked n (cut (least_of start) s.bytes).bodies) (was_taken q (ps ++ (asks, refused (fault.Broke WriteFault)) ∷ [])) q) (sent_same ps (asks, refused (fault.Broke WriteFault)) (it.no_id (fault.Broke WriteFault)))
+            ∙ ap (λ b. reply_among (filed_bodies start s.bytes ps) b q) (taken_same q ps (asks, refused (fault.Broke WriteFault)) (it.no_take q (refused (fault.Broke WriteFault)))));
         calls = λ still. let both : Some WriteFault ≡ None = sym breaks ∙ still in cc;
         are_bytes = s.keeps.are_bytes;
       };
       link_is = (
-        closed_same ps p (it.no_close (fault.Broke WriteFault)) ∙ s.link_is.0,
-        subst (SourceIs start s.bytes (ps ++ p ∷ [])) (sym same)
-            (source_same start s.bytes ps p (source k) (ap (breaks_by is_read_fault) its_break) (ap (breaks_by is_end) its_break) (it.busy start ps (fault.Broke WriteFault)) s.link_is.1.0),
-        sink_broke start ps p count (sink k) (sink k') unbroken its_break (it.no_id (fault.Broke WriteFault))
+        closed_same ps (asks, refused (fault.Broke WriteFault)) (it.no_close (fault.Broke WriteFault)) ∙ s.link_is.0,
+        subst (SourceIs start s.bytes (ps ++ (asks, refused (fault.Broke WriteFault)) ∷ [])) (sym same)
+            (source_same start s.bytes ps (asks, refused (fault.Broke WriteFault)) (source k) (ap (breaks_by is_read_fault) its_break) (ap (breaks_by is_end) its_break) (it.busy start ps (fault.Broke WriteFault)) s.link_is.1.0),
+        sink_broke start ps (asks, refused (fault.Broke WriteFault)) count (sink k) (sink k') unbroken its_break (it.no_id (fault.Broke WriteFault))
             (subst (λ i. SentPart count (sink k) (sink k') (Frame (body_of asks i))) (open_is.1 ∙ ap (λ n. pos (n + 1)) (calls (Some k) start ps s).last_is) sends) s.link_is.1.1,
       );
     } where
-      p : Pair
-      p = (asks, refused (fault.Broke WriteFault))
-
       unbroken : first_break ps ≡ None
       unbroken = none (Some k) start ps s
 
-      its_break : break_of p.1 ≡ Some WriteFault
+      its_break : break_of (asks, refused (fault.Broke WriteFault)).1 ≡ Some WriteFault
       its_break = it.breaks (fault.Broke WriteFault)
 
-      breaks : first_break (ps ++ p ∷ []) ≡ Some WriteFault
-      breaks = first_now ps p WriteFault unbroken its_break
+      breaks : first_break (ps ++ (asks, refused (fault.Broke WriteFault)) ∷ []) ≡ Some WriteFault
+      breaks = first_now ps (asks, refused (fault.Broke WriteFault)) WriteFault unbroken its_break
 
-      given_then : (l : List ℕ) → given l (ps ++ p ∷ []) ≡ given l ps
+      given_then : (l : List ℕ) → given l (ps ++ (asks, refused (fault.Broke WriteFault)) ∷ []) ≡ given l ps
       given_then l =
-          given_is l (ps ++ p ∷ []) (Some WriteFault) (pumped ps) breaks (pumped_same ps p (it.no_bytes (fault.Broke WriteFault)))
+          given_is l (ps ++ (asks, refused (fault.Broke WriteFault)) ∷ []) (Some WriteFault) (pumped ps) breaks (pumped_same ps (asks, refused (fault.Broke WriteFault)) (it.no_bytes (fault.Broke WriteFault)))
           ∙ sym (given_is l ps None (pumped ps) unbroken refl)
 
       failed : start.writes_hold ≡ false

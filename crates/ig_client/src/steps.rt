@@ -1,6 +1,7 @@
 //! What a channel does with its link, step by step: each step knows a source's answer or a sink alone.
 
 ghost use Rattle.std.specs.Prelude.{◌≡◌, ◌≤◌, length, None, Ok, Err, IfOk, IfErr};
+ghost use Rattle.ig_base.specs.Numbers.{AreBytes};
 ghost use Rattle.ig_client.specs.Steps.{Submits, SameSource, Sends, LinkSends, TakesRoom, Files, MayHold};
 ghost use Rattle.ig_client.specs.RequestBodies.{IsSubmittable, request_body};
 ghost use Rattle.ig_parts.specs.PartsMessages.{ask_body as parts_body};
@@ -119,7 +120,8 @@ pub(crate) fn file_read(
     requires up { pending.old.down ≡ None }
     requires fits { length piece.items ≤ pending.old.room }
     requires taken { MayHold answer piece.items }
-    ensures { Files answer piece.items pending.old pending.new result }
+    ensures files { Files answer piece.items pending.old pending.new result }
+    ensures bytes { AreBytes piece.items }
 {
     let mut piece = piece;
     match answer {
