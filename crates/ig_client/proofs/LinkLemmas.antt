@@ -87,13 +87,13 @@ sink_same start ps p sink no_fault no_id is = record {
       let it : (w : List ℕ) × IsWritten ps w × Appends start.written sink.written w = is.written tells in (
         it.0,
         (
-          it.1.0.0,
-          it.1.0.1.0,
-          it.1.0.1.1.0 ∙ ap (λ (l : List ℕ). l ++ it.1.0.0) (sym (
+          it.1.0,
+          it.1.1,
+          it.1.2 ∙ ap (λ (l : List ℕ). l ++ it.1.0) (sym (
               sent_bytes_more ps p ∙ ap (λ o. sent_bytes ps ++ frame_under p.0 o) no_id ∙ append-nil (sent_bytes ps))),
-          broken_kept 0 ps p no_fault ∙ it.1.0.1.1.1,
+          broken_kept 0 ps p no_fault ∙ it.1.3,
         ),
-        it.1.1,
+        it.2,
       );
   faults = is.faults;
   holds = is.holds;
@@ -106,7 +106,7 @@ nil_first (x ∷ a) b is = cc
 -- until a write fault all that was written are frames that were sent
 all_sent : (ps : List Pair) (w : List ℕ) → first_break ps ≡ None → IsWritten ps w → w ≡ sent_bytes ps
 all_sent ps w none is =
-    is.1.1.0 ∙ ap (λ (l : List ℕ). sent_bytes ps ++ l) (nil_first is.0 is.1.0 (sym (broken_none 0 ps none) ∙ is.1.1.1)) ∙ append-nil (sent_bytes ps)
+    is.2 ∙ ap (λ (l : List ℕ). sent_bytes ps ++ l) (nil_first is.0 is.1 (sym (broken_none 0 ps none) ∙ is.3)) ∙ append-nil (sent_bytes ps)
 
 -- a submit that was accepted
 pub sink_sent : (start : ChannelStart) (ps : List Pair) (p : Pair) (id : ℤ) (old new : SinkState)
@@ -118,7 +118,7 @@ sink_sent start ps p id old new none no_break its_id moves is = record {
       let it : (w : List ℕ) × IsWritten ps w × Appends start.written old.written w = is.written (moves.tells tells) in
       let frames : sent_bytes (ps ++ p ∷ []) ≡ it.0 ++ Frame (body_of p.0 id) =
       sent_bytes_more ps p ∙ ap (λ o. sent_bytes ps ++ frame_under p.0 o) its_id
-      ∙ ap (λ (l : List ℕ). l ++ Frame (body_of p.0 id)) (sym (all_sent ps it.0 none it.1.0)) in (
+      ∙ ap (λ (l : List ℕ). l ++ Frame (body_of p.0 id)) (sym (all_sent ps it.0 none it.1)) in (
         it.0 ++ Frame (body_of p.0 id),
         (
           [],
@@ -126,7 +126,7 @@ sink_sent start ps p id old new none no_break its_id moves is = record {
           sym frames ∙ sym (append-nil (sent_bytes (ps ++ p ∷ []))),
           broken_kept 0 ps p (ap (breaks_by is_write_fault) no_break) ∙ broken_none 0 ps none,
         ),
-        Appends-trans start.written old.written new.written it.0 (Frame (body_of p.0 id)) it.1.1 (moves.written tells),
+        Appends-trans start.written old.written new.written it.0 (Frame (body_of p.0 id)) it.2 (moves.written tells),
       );
   faults = omega (arith, is.faults, moves.faults);
   holds = λ h. moves.holds (is.holds h);
@@ -141,7 +141,7 @@ sink_broke start ps p count old new none breaks no_id sends is = record {
   written = λ tells.
       let it : (w : List ℕ) × IsWritten ps w × Appends start.written old.written w = is.written (sends.advances.tells tells) in
       let frames : sent_bytes (ps ++ p ∷ []) ≡ it.0 =
-      sent_bytes_more ps p ∙ ap (λ o. sent_bytes ps ++ frame_under p.0 o) no_id ∙ append-nil (sent_bytes ps) ∙ sym (all_sent ps it.0 none it.1.0) in (
+      sent_bytes_more ps p ∙ ap (λ o. sent_bytes ps ++ frame_under p.0 o) no_id ∙ append-nil (sent_bytes ps) ∙ sym (all_sent ps it.0 none it.1) in (
         it.0 ++ take count (Frame (body_of p.0 (pos (sent ps + 1)))),
         (
           take count (Frame (body_of p.0 (pos (sent ps + 1)))),
@@ -149,7 +149,7 @@ sink_broke start ps p count old new none breaks no_id sends is = record {
           ap (λ (l : List ℕ). l ++ take count (Frame (body_of p.0 (pos (sent ps + 1))))) (sym frames),
           broken_last 0 ps p none ∙ ap (λ b. cond (breaks_by is_write_fault b) (Frame (body_of p.0 (pos (sent ps + 1)))) []) breaks ∙ sym (take-append-drop count (Frame (body_of p.0 (pos (sent ps + 1))))),
         ),
-        Appends-trans start.written old.written new.written it.0 (take count (Frame (body_of p.0 (pos (sent ps + 1))))) it.1.1 (sends.advances.written tells),
+        Appends-trans start.written old.written new.written it.0 (take count (Frame (body_of p.0 (pos (sent ps + 1))))) it.2 (sends.advances.written tells),
       );
   faults = omega (arith, is.faults, sends.advances.faults);
   holds = λ h. sends.advances.holds (is.holds h);
@@ -168,7 +168,7 @@ shown_since start bytes ps source sink shown reads writes shows = record {
   written = elim (cases_Bool sink.tells) [
     | inl tells ↦
         let it : (w : List ℕ) × IsWritten ps w × Appends start.written sink.written w = writes.written tells in
-        inr (it.0, it.1.0, subst (λ (o : Option (List ℕ)). Appends start.written o it.0) (sym (shows.told tells)) it.1.1)
+        inr (it.0, it.1, subst (λ (o : Option (List ℕ)). Appends start.written o it.0) (sym (shows.told tells)) it.2)
     | inr silent ↦ inl (shows.untold silent)
   ];
 }

@@ -114,7 +114,7 @@ module _ {L : Type 0} (source : L → SourceState) (sink : L → SinkState) wher
         λ _. refl,
         calls.all_asked,
         subst IsNotBad (sym calls.missing.1) tt,
-        given_of start.left (source k).left s.bytes s.link_is.1.0.left,
+        given_of start.left (source k).left s.bytes s.link_is.1.left,
       )
 
   -- none is read while no call is pending
@@ -176,7 +176,7 @@ module _ {L : Type 0} (source : L → SourceState) (sink : L → SinkState) wher
     module _ (untold : (source k).stays_untold ≡ true) (same_sink : sink k' ≡ sink k) where
       -- the sink after a pair of a pump
       sink_stays : (p : Pair) → breaks_by is_write_fault (break_of p.1) ≡ false → id_given p.1 ≡ None → SinkIs start (ps ++ p ∷ []) (sink k')
-      sink_stays p no_fault no_id = subst (SinkIs start (ps ++ p ∷ [])) (sym same_sink) (sink_same start ps p (sink k) no_fault no_id s.link_is.1.1)
+      sink_stays p no_fault no_id = subst (SinkIs start (ps ++ p ∷ [])) (sym same_sink) (sink_same start ps p (sink k) no_fault no_id s.link_is.2)
 
       -- bytes were read, and the channel didn't break
       stands_pumped : (piece : List ℕ) → AreBytes piece → 1 ≤ length piece → length piece ≤ next_read c → SourceAdvances (source k) (source k') piece
@@ -230,7 +230,7 @@ module _ {L : Type 0} (source : L → SourceState) (sink : L → SinkState) wher
         source_after : SourceIs start (s.bytes ++ piece) (ps ++ (ask.Pump, got.Pumped piece) ∷ []) (source k')
         source_after =
             source_read start s.bytes ps (ask.Pump, got.Pumped piece) (source k) (source k') piece none untold moves (λ t. absurd (false≢true t)) (λ t. absurd (false≢true t))
-            (inl (omega (arith, steady, not_idle piece some_bytes))) s.link_is.1.0
+            (inl (omega (arith, steady, not_idle piece some_bytes))) s.link_is.1
 
         may_l : (l : List ℕ) → Pumps start l ps (Ok piece)
         may_l l =
@@ -272,7 +272,7 @@ module _ {L : Type 0} (source : L → SourceState) (sink : L → SinkState) wher
           closed_same ps (ask.Pump, got.NotPumped (fault.Broke cause)) refl ∙ s.link_is.0,
           source_read start s.bytes ps (ask.Pump, got.NotPumped (fault.Broke cause)) (source k) (source k') piece none untold moves
               (λ t. absurd (not_read cause of_frames t)) (λ t. absurd (not_end cause of_frames t))
-              (inl (omega (arith, steady))) s.link_is.1.0,
+              (inl (omega (arith, steady))) s.link_is.1,
           sink_stays (ask.Pump, got.NotPumped (fault.Broke cause)) (not_write cause of_frames) refl,
         );
       } where
@@ -336,7 +336,7 @@ module _ {L : Type 0} (source : L → SourceState) (sink : L → SinkState) wher
         link_is = (
           closed_same ps (ask.Pump, got.NotPumped (fault.Broke cause)) refl ∙ s.link_is.0,
           subst (λ (bytes : List ℕ). SourceIs start bytes (ps ++ (ask.Pump, got.NotPumped (fault.Broke cause)) ∷ []) (source k')) (append-nil s.bytes)
-              (source_read start s.bytes ps (ask.Pump, got.NotPumped (fault.Broke cause)) (source k) (source k') [] none untold moves faults ends (inl (omega (arith, steady))) s.link_is.1.0),
+              (source_read start s.bytes ps (ask.Pump, got.NotPumped (fault.Broke cause)) (source k) (source k') [] none untold moves faults ends (inl (omega (arith, steady))) s.link_is.1),
           sink_stays (ask.Pump, got.NotPumped (fault.Broke cause)) no_write refl,
         );
       } where
@@ -355,7 +355,7 @@ module _ {L : Type 0} (source : L → SourceState) (sink : L → SinkState) wher
             closed_same ps (ask.Pump, got.Pumped []) refl ∙ s.link_is.0,
             subst (λ (bytes : List ℕ). SourceIs start bytes (ps ++ (ask.Pump, got.Pumped []) ∷ []) (source k')) (append-nil s.bytes)
                 (source_read start s.bytes ps (ask.Pump, got.Pumped []) (source k) (source k') [] none untold paused.advances (λ t. absurd (false≢true t)) (λ t. absurd (false≢true t))
-                (counted paused.rose (idle start ps (got.Pumped [])) (at_most_one (nat_lt (length (asked (sent ps) (cut (least_of start) (pumped ps)).bodies)) (sent ps)))) s.link_is.1.0),
+                (counted paused.rose (idle start ps (got.Pumped [])) (at_most_one (nat_lt (length (asked (sent ps) (cut (least_of start) (pumped ps)).bodies)) (sent ps)))) s.link_is.1),
             sink_stays (ask.Pump, got.Pumped []) refl refl,
           ) where
             at_most_one : (b : Bool) → cond b 1 0 ≤ 1
@@ -377,7 +377,7 @@ module _ {L : Type 0} (source : L → SourceState) (sink : L → SinkState) wher
             given_now : IsGiven start.left (pumped ps ++ piece)
             given_now =
                 given_of start.left (source k').left (pumped ps ++ piece) (subst (Consumes start.left (source k').left) (ap (λ (b : List ℕ). b ++ piece) are)
-                (Consumes-trans start.left (source k).left (source k').left s.bytes piece s.link_is.1.0.left moves.left))
+                (Consumes-trans start.left (source k).left (source k').left s.bytes piece s.link_is.1.left moves.left))
 
             cut_is : (f : Front) → front_with (least_of start) stream piece ≡ f → cut (least_of start) (s.bytes ++ piece) ≡ with_rest stream.bodies (stream.rest ++ piece) f
             cut_is f at = grows piece some_bytes within ∙ ap (with_rest stream.bodies (stream.rest ++ piece)) at
@@ -422,17 +422,17 @@ module _ {L : Type 0} (source : L → SourceState) (sink : L → SinkState) wher
       → ReadsNowAs answer (source k) (source k') buf → steps.Files answer buf c new result → Gains (Stands c (Some k)) (Stands new (Some k')) (pump_pair result)
   stands_pump c new k k' (now.Bytes n) buf (Ok bytes) up some size are untold same reads files start ps s =
       let len : length (take n buf) ≡ n = length-take-le n buf reads.fits in
-      let is : new ≡ filed (take n buf) c = files.1.0 ∙ ap (λ (l : List ℕ). filed l c) files.0 in
+      let is : new ≡ filed (take n buf) c = files.1 ∙ ap (λ (l : List ℕ). filed l c) files.0 in
       subst (λ (m : PendingState). Stands m (Some k') start (ps ++ (ask.Pump, got.Pumped bytes) ∷ [])) (sym is)
       (subst (λ (l : List ℕ). Stands (filed (take n buf) c) (Some k') start (ps ++ (ask.Pump, got.Pumped l) ∷ [])) (sym files.0)
       (stands_pumped c k k' up some start ps s untold same (take n buf) (are_taken n buf are) (omega (arith, len, reads.some)) (omega (arith, len, reads.fits, size))
-      reads.advances reads.pauses (sym (ap (λ (m : PendingState). m.down) is) ∙ files.1.1)))
+      reads.advances reads.pauses (sym (ap (λ (m : PendingState). m.down) is) ∙ files.2)))
   stands_pump c new k k' (now.Bytes n) buf (Err cause) up some size are untold same reads files =
       let len : length (take n buf) ≡ n = length-take-le n buf reads.fits in
-      subst (λ (f : ChannelFault). Gains (Stands c (Some k)) (Stands new (Some k')) (pump_pair (Err f))) (sym files.1.1.1)
-      (λ start ps s. subst (λ (m : PendingState). Stands m (Some k') start (ps ++ (ask.Pump, got.NotPumped (fault.Broke files.1.0)) ∷ [])) (sym files.0)
-      (stands_filed_broke c k k' up some start ps s untold same (take n buf) files.1.0 (are_taken n buf are) (omega (arith, len, reads.some)) (omega (arith, len, reads.fits, size))
-      reads.advances reads.pauses (sym (ap (λ (m : PendingState). m.down) files.0) ∙ files.1.1.0)))
+      subst (λ (f : ChannelFault). Gains (Stands c (Some k)) (Stands new (Some k')) (pump_pair (Err f))) (sym files.3)
+      (λ start ps s. subst (λ (m : PendingState). Stands m (Some k') start (ps ++ (ask.Pump, got.NotPumped (fault.Broke files.1)) ∷ [])) (sym files.0)
+      (stands_filed_broke c k k' up some start ps s untold same (take n buf) files.1 (are_taken n buf are) (omega (arith, len, reads.some)) (omega (arith, len, reads.fits, size))
+      reads.advances reads.pauses (sym (ap (λ (m : PendingState). m.down) files.0) ∙ files.2)))
   stands_pump c new k k' now.NotYet buf result up some size are untold same reads files =
       subst (λ (r : Result (List ℕ) ChannelFault). Gains (Stands c (Some k)) (Stands new (Some k')) (pump_pair r)) (sym files.0)
       (λ start ps s. subst (λ (m : PendingState). Stands m (Some k') start (ps ++ (ask.Pump, got.Pumped []) ∷ [])) (sym files.1)
@@ -442,13 +442,13 @@ module _ {L : Type 0} (source : L → SourceState) (sink : L → SinkState) wher
       (λ start ps s. subst (λ (m : PendingState). Stands m (Some k') start (ps ++ (ask.Pump, got.NotPumped (fault.Broke break.PeerEnded)) ∷ [])) (sym files.1)
       (stands_lost c k k' up some start ps s untold same break.PeerEnded refl refl reads.advances (λ t. absurd (false≢true t)) (λ t. reads.ended) reads.pauses
       (λ l held. given_all start.left (source k).left (pumped ps)
-      (subst (Consumes start.left (source k).left) (s.given_are ∙ given_open s.last ps (sym s.keeps.down ∙ up)) s.link_is.1.0.left)
-      s.link_is.1.0.untold (reads.whole (s.link_is.1.0.holds held)))))
+      (subst (Consumes start.left (source k).left) (s.given_are ∙ given_open s.last ps (sym s.keeps.down ∙ up)) s.link_is.1.left)
+      s.link_is.1.untold (reads.whole (s.link_is.1.holds held)))))
   stands_pump c new k k' now.Failed buf result up some size are untold same reads files =
       subst (λ (r : Result (List ℕ) ChannelFault). Gains (Stands c (Some k)) (Stands new (Some k')) (pump_pair r)) (sym files.0)
       (λ start ps s. subst (λ (m : PendingState). Stands m (Some k') start (ps ++ (ask.Pump, got.NotPumped (fault.Broke break.ReadFault)) ∷ [])) (sym files.1)
       (stands_lost c k k' up some start ps s untold same break.ReadFault refl refl reads.advances (λ t. reads.rose) (λ t. absurd (false≢true t)) reads.pauses
-      (λ l. failed start.reads_hold s.link_is.1.0.holds))) where
+      (λ l. failed start.reads_hold s.link_is.1.holds))) where
         failed : (b : Bool) → (b ≡ true → (source k).holds ≡ true) → b ≡ false
         failed true so = absurd (false≢true (sym reads.holds_not ∙ so refl))
         failed false so = refl
@@ -460,7 +460,7 @@ module _ {L : Type 0} (source : L → SourceState) (sink : L → SinkState) wher
       → Gains (Stands old link) (Stands new link) (pump_pair (Err cause))
   stands_unread old new link (fault.Down cause) is =
       subst (λ (m : PendingState). Gains (Stands old link) (Stands m link) (Some (ask.Pump, got.NotPumped (fault.Down cause)))) (sym is.1) (stands_down old link cause is.0)
-  stands_unread old new link fault.NoMemory is = λ start ps s. elim is.1.1 [
+  stands_unread old new link fault.NoMemory is = λ start ps s. elim is.2 [
     | inl same ↦ subst (λ (m : PendingState). Stands m link start ps) (sym same) s
     | inr room ↦ subst (λ (m : PendingState). Stands m link start ps) (sym room) (stands_room old link start ps s)
   ]
@@ -475,9 +475,9 @@ module _ {L : Type 0} (source : L → SourceState) (sink : L → SinkState) wher
       → Gains (Stands old link) (Stands new link) (pump_pair (Ok piece))
   stands_empty old new link piece room empty = elim room.1 [
     | inl idle ↦
-        subst (λ (m : PendingState). Gains (Stands old link) (Stands m link) (pump_pair (Ok piece))) (sym idle.1.1)
-        (subst (λ (l : List ℕ). Gains (Stands old link) (Stands old link) (pump_pair (Ok l))) (sym idle.1.0) (stands_idle old link room.0 idle.0))
-    | inr some ↦ absurd (omega (arith, some.1.1.0, empty))
+        subst (λ (m : PendingState). Gains (Stands old link) (Stands m link) (pump_pair (Ok piece))) (sym idle.2)
+        (subst (λ (l : List ℕ). Gains (Stands old link) (Stands old link) (pump_pair (Ok l))) (sym idle.1) (stands_idle old link room.0 idle.0))
+    | inr some ↦ absurd (omega (arith, some.2, empty))
   ]
 
   -- the link is there while the channel hasn't broken
@@ -491,8 +491,8 @@ module _ {L : Type 0} (source : L → SourceState) (sink : L → SinkState) wher
   pub room_is : (old mid : PendingState) (piece : List ℕ) → steps.TakesRoom old mid (Ok piece) → 1 ≤ length piece
       → (1 ≤ old.waiting) × (mid ≡ with_room old) × (length piece ≡ next_read old)
   room_is old mid piece room some = elim room.1 [
-    | inl idle ↦ absurd (omega (arith, ap length idle.1.0, some))
-    | inr is ↦ (is.0, is.1.1.1, is.1.0)
+    | inl idle ↦ absurd (omega (arith, ap length idle.1, some))
+    | inr is ↦ (is.0, is.3, is.1)
   ]
 
   gains_after : (A B C : ChannelStart → List Pair → Type 0) (pair : Option Pair) → ((start : ChannelStart) (ps : List Pair) → A start ps → B start ps) → Gains B C pair → Gains A C pair
@@ -505,5 +505,5 @@ module _ {L : Type 0} (source : L → SourceState) (sink : L → SinkState) wher
   stands_read old mid new k k' answer piece buf result room some size are untold same reads files =
       let it : (1 ≤ old.waiting) × (mid ≡ with_room old) × (length piece ≡ next_read old) = room_is old mid piece room some in
       gains_after (Stands old (Some k)) (Stands (with_room old) (Some k)) (Stands new (Some k')) (pump_pair result) (stands_room old (Some k))
-      (stands_pump (with_room old) new k k' answer buf result room.0 it.0 (size ∙ it.1.1) are untold same reads
-      (subst (λ (m : PendingState). steps.Files answer buf m new result) it.1.0 files))
+      (stands_pump (with_room old) new k k' answer buf result room.0 it.0 (size ∙ it.2) are untold same reads
+      (subst (λ (m : PendingState). steps.Files answer buf m new result) it.1 files))

@@ -118,8 +118,8 @@ module _ {L : Type 0} (source : L → SourceState) (sink : L → SinkState) wher
       → LinkStands source sink start bytes ps link → LinkStands source sink start bytes (ps ++ p ∷ []) link
   link_quiet start bytes ps p (Some k) quiet busy is = (
     closed_same ps p quiet.no_close ∙ is.0,
-    source_same start bytes ps p (source k) (ap (breaks_by is_read_fault) quiet.no_break) (ap (breaks_by is_end) quiet.no_break) busy is.1.0,
-    sink_same start ps p (sink k) (ap (breaks_by is_write_fault) quiet.no_break) quiet.no_id is.1.1,
+    source_same start bytes ps p (source k) (ap (breaks_by is_read_fault) quiet.no_break) (ap (breaks_by is_end) quiet.no_break) busy is.1,
+    sink_same start ps p (sink k) (ap (breaks_by is_write_fault) quiet.no_break) quiet.no_id is.2,
   )
   link_quiet start bytes ps p None quiet busy is = closed_same ps p quiet.no_close ∙ is
 
@@ -181,8 +181,8 @@ module _ {L : Type 0} (source : L → SourceState) (sink : L → SinkState) wher
     link_same : (link : Option L) → LinkStands source sink start s.bytes ps link → LinkStands source sink start s.bytes (ps ++ (ask.Take id, got.Taken (Some frame)) ∷ []) link
     link_same (Some k) h = (
       closed_same ps (ask.Take id, got.Taken (Some frame)) refl ∙ h.0,
-      source_same start s.bytes ps (ask.Take id, got.Taken (Some frame)) (source k) refl refl refl h.1.0,
-      sink_same start ps (ask.Take id, got.Taken (Some frame)) (sink k) refl refl h.1.1,
+      source_same start s.bytes ps (ask.Take id, got.Taken (Some frame)) (source k) refl refl refl h.1,
+      sink_same start ps (ask.Take id, got.Taken (Some frame)) (sink k) refl refl h.2,
     )
     link_same None h = closed_same ps (ask.Take id, got.Taken (Some frame)) refl ∙ h
 
@@ -201,7 +201,7 @@ module _ {L : Type 0} (source : L → SourceState) (sink : L → SinkState) wher
         each_more start l [] ps (ask.Close, got.Closed (Some shown)) (s.each l before) (
           s.link_is.0,
           subst (λ (bytes : List ℕ). ShownSince start shown bytes ps) before
-              (shown_since start s.bytes ps (source link) (sink link) shown s.link_is.1.0 s.link_is.1.1 shows),
+              (shown_since start s.bytes ps (source link) (sink link) shown s.link_is.1 s.link_is.2 shows),
         );
     keeps = kept c.down refl;
     link_is = closed_more ps (ask.Close, got.Closed (Some shown)) ∙ or_true (was_closed ps);

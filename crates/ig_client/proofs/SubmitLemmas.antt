@@ -81,6 +81,14 @@ outcome_is start bytes ps asks c k = ap (offered (body_of asks)) (go (first_brea
       ∙ ap (λ n. next_after c.down n (pending start bytes ps)) (sym calls.last_is)
       ∙ ap (next_after c.down c.last) count
 
+-- what a write leaves as it was is what the link is as a source
+pub same_source : {L : Type 0} (source beside : L → SourceState) → ((k : L) → beside k ≡ source k) → (link link' : Option L)
+    → steps.SameSource beside link link' → steps.SameSource source link link'
+same_source source beside is (Some k) (Some k') same = sym (is k') ∙ same ∙ is k
+same_source source beside is (Some k) None same = absurd same
+same_source source beside is None (Some k') same = absurd same
+same_source source beside is None None same = tt
+
 -- ---- submits of either kind
 
 -- this asks for a submit, which is refused so
@@ -202,8 +210,8 @@ module _ {L : Type 0} (source : L → SourceState) (sink : L → SinkState) (ask
           (subst (λ n. KeepsCalls (least_of start) n (cut (least_of start) s.bytes) (λ q. was_taken q ps) (with_call c)) (sym (sent_more ps (asks, got.Sent id))) (one_more (Some k) start ps s)));
       link_is = (
         closed_same ps (asks, got.Sent id) refl ∙ s.link_is.0,
-        subst (SourceIs start s.bytes (ps ++ (asks, got.Sent id) ∷ [])) (sym same) (source_same start s.bytes ps (asks, got.Sent id) (source k) refl refl refl s.link_is.1.0),
-        sink_sent start ps (asks, got.Sent id) id (sink k) (sink k') (none (Some k) start ps s) refl refl moves s.link_is.1.1,
+        subst (SourceIs start s.bytes (ps ++ (asks, got.Sent id) ∷ [])) (sym same) (source_same start s.bytes ps (asks, got.Sent id) (source k) refl refl refl s.link_is.1),
+        sink_sent start ps (asks, got.Sent id) id (sink k) (sink k') (none (Some k) start ps s) refl refl moves s.link_is.2,
       );
     }
 
@@ -232,9 +240,9 @@ module _ {L : Type 0} (source : L → SourceState) (sink : L → SinkState) (ask
       link_is = (
         closed_same ps (asks, refused (fault.Broke WriteFault)) (it.no_close (fault.Broke WriteFault)) ∙ s.link_is.0,
         subst (SourceIs start s.bytes (ps ++ (asks, refused (fault.Broke WriteFault)) ∷ [])) (sym same)
-            (source_same start s.bytes ps (asks, refused (fault.Broke WriteFault)) (source k) (ap (breaks_by is_read_fault) its_break) (ap (breaks_by is_end) its_break) (it.busy start ps (fault.Broke WriteFault)) s.link_is.1.0),
+            (source_same start s.bytes ps (asks, refused (fault.Broke WriteFault)) (source k) (ap (breaks_by is_read_fault) its_break) (ap (breaks_by is_end) its_break) (it.busy start ps (fault.Broke WriteFault)) s.link_is.1),
         sink_broke start ps (asks, refused (fault.Broke WriteFault)) count (sink k) (sink k') unbroken its_break (it.no_id (fault.Broke WriteFault))
-            (subst (λ i. SentPart count (sink k) (sink k') (Frame (body_of asks i))) (open_is.1 ∙ ap (λ n. pos (n + 1)) (calls (Some k) start ps s).last_is) sends) s.link_is.1.1,
+            (subst (λ i. SentPart count (sink k) (sink k') (Frame (body_of asks i))) (open_is.1 ∙ ap (λ n. pos (n + 1)) (calls (Some k) start ps s).last_is) sends) s.link_is.2,
       );
     } where
       unbroken : first_break ps ≡ None
@@ -252,7 +260,7 @@ module _ {L : Type 0} (source : L → SourceState) (sink : L → SinkState) (ask
           ∙ sym (given_is l ps None (pumped ps) unbroken refl)
 
       failed : start.writes_hold ≡ false
-      failed = holds_not start.writes_hold s.link_is.1.1.holds where
+      failed = holds_not start.writes_hold s.link_is.2.holds where
         holds_not : (b : Bool) → (b ≡ true → (sink k).holds ≡ true) → b ≡ false
         holds_not true so = absurd (false≢true (sym sends.holds_not ∙ so refl))
         holds_not false so = refl
@@ -265,12 +273,12 @@ module _ {L : Type 0} (source : L → SourceState) (sink : L → SinkState) (ask
         → steps.Sends id (Frame (body_of asks id)) (with_call c) new (sink k) (sink k') answer
         → Gains (Stands c (Some k)) (Stands new (Some k')) (submit_pair asks refused answer)
     stands_written k k' new (Ok given) same sends =
-        subst (λ (n : PendingState). Gains (Stands c (Some k)) (Stands n (Some k')) (Some (asks, got.Sent given))) (sym sends.1.0)
-        (subst (λ i. Gains (Stands c (Some k)) (Stands (with_call c) (Some k')) (Some (asks, got.Sent i))) (sym sends.0) (stands_sent k k' sends.1.1.0 same))
+        subst (λ (n : PendingState). Gains (Stands c (Some k)) (Stands n (Some k')) (Some (asks, got.Sent given))) (sym sends.1)
+        (subst (λ i. Gains (Stands c (Some k)) (Stands (with_call c) (Some k')) (Some (asks, got.Sent i))) (sym sends.0) (stands_sent k k' sends.2 same))
     stands_written k k' new (Err cause) same sends =
-        subst (λ (n : PendingState). Gains (Stands c (Some k)) (Stands n (Some k')) (submit_pair asks refused (Err cause))) (sym sends.1.0)
+        subst (λ (n : PendingState). Gains (Stands c (Some k)) (Stands n (Some k')) (submit_pair asks refused (Err cause))) (sym sends.1)
         (subst (λ (f : ChannelFault). Gains (Stands c (Some k)) (Stands (broken WriteFault (with_call c)) (Some k')) (submit_pair asks refused (Err f))) (sym sends.0)
-        (stands_broken k k' sends.1.1.0 sends.1.1.1 same))
+        (stands_broken k k' sends.2.0 sends.2.1 same))
 
     stands_offered : (link link' : Option L) (new : PendingState) (answer : Result ℤ ChannelFault) → steps.SameSource source link link'
         → steps.LinkSends sink id (Frame (body_of asks id)) (with_call c) new link link' answer
@@ -285,9 +293,9 @@ module _ {L : Type 0} (source : L → SourceState) (sink : L → SinkState) (ask
   pub stands_submit : (old new : PendingState) (link link' : Option L) (answer : Result ℤ ChannelFault) → steps.SameSource source link link'
       → steps.Submits sink (body_of asks) old new link link' answer → Gains (Stands old link) (Stands new link') (submit_pair asks refused answer)
   stands_submit old new link link' answer same (inl refusal) =
-      subst (λ (n : PendingState). Gains (Stands old link) (Stands n link') (submit_pair asks refused answer)) (sym refusal.1.1.0)
-      (subst (λ (l : Option L). Gains (Stands old link) (Stands old l) (submit_pair asks refused answer)) (sym refusal.1.1.1.0)
-      (subst (λ (r : Result ℤ ChannelFault). Gains (Stands old link) (Stands old link) (submit_pair asks refused r)) (sym refusal.1.0)
-      (stands_unsent old link refusal.0 refusal.1.1.1.1)))
+      subst (λ (n : PendingState). Gains (Stands old link) (Stands n link') (submit_pair asks refused answer)) (sym refusal.2)
+      (subst (λ (l : Option L). Gains (Stands old link) (Stands old l) (submit_pair asks refused answer)) (sym refusal.3)
+      (subst (λ (r : Result ℤ ChannelFault). Gains (Stands old link) (Stands old link) (submit_pair asks refused r)) (sym refusal.1)
+      (stands_unsent old link refusal.0 refusal.4)))
   stands_submit old new link link' answer same (inr sends) =
-      stands_offered old sends.0 sends.1.0 link link' new answer same sends.1.1
+      stands_offered old sends.0 sends.1 link link' new answer same sends.2
