@@ -8,5 +8,6 @@ pub mod StandLemmas
 pub mod SubmitLemmas
 pub mod PumpLemmas
 pub mod StartLemmas
+pub mod PendingLemmas
 pub mod ReplyLemmas
 mod WorkedRuns
