@@ -98,7 +98,7 @@ asked_stops n bodies body all is_not =
 pub has_its_id : (body : List ℕ) → has_id (id_of body) body ≡ true
 has_its_id body = (Decides-int_eq (id_of body) (id_of body)).1 refl
 
-id_is : (id : ℤ) (body : List ℕ) → has_id id body ≡ true → id_of body ≡ id
+pub id_is : (id : ℤ) (body : List ℕ) → has_id id body ≡ true → id_of body ≡ id
 id_is id body has = (Decides-int_eq (id_of body) id).0 has
 
 -- a call that a frame replies to was made

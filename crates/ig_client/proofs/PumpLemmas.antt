@@ -17,7 +17,7 @@ use Rattle.ig_link.specs.declared.link.TakeNow.{TakeNow}
 use Rattle.ig_link.specs.declared.link.TakeNow.TheVariants as now
 use Rattle.ig_client.specs.PendingState.{PendingState, next_read, missing_of, with_room, with_bytes, with_front, with_reply, filed, broken, reply_to, is_waiting, id_of}
 use Rattle.ig_client.specs.Cutting.{Cutting, cut, with_rest, asked, is_pending}
-use Rattle.ig_client.specs.Pairs.{Pair, sent, pumped, first_break, break_of, breaks_by, is_read_fault, is_write_fault, is_end, is_of_frames, was_taken, was_closed}
+use Rattle.ig_client.specs.Pairs.{Pair, sent, pumped, first_break, break_of, id_given, breaks_by, is_read_fault, is_write_fault, is_end, is_of_frames, was_taken, was_closed}
 use Rattle.ig_client.specs.LinkSince.{idle}
 use Rattle.ig_client.specs.ChannelRun.{AllAsked, IsUnasked, IsNotBad, IsGiven, Waits, PumpBreaks, Pumps, MayFollow, given, least_of, pending, reply_among, filed_bodies}
 use Rattle.ig_client.specs.Stands.{KeepsCalls, Keeps, SourceIs, SinkIs, LinkStands, ChannelStands, Gains, pump_pair}
@@ -80,7 +80,7 @@ filed_calls least n stream taken c piece (Body body rest) k up some are whole at
 
 module _ {L : Type 0} (source : L → SourceState) (sink : L → SinkState) where
   abbrev Stands : PendingState → Option L → ChannelStart → List Pair → Type 0
-  Stands c link start ps = ChannelStands source sink c link start ps
+  Stands c link = ChannelStands source sink c link
 
   -- ---- nothing is read
 
@@ -108,7 +108,7 @@ module _ {L : Type 0} (source : L → SourceState) (sink : L → SinkState) wher
       let none : first_break ps ≡ None = sym s.keeps.down ∙ up in
       let calls : KeepsCalls (least_of start) (sent ps) (cut (least_of start) s.bytes) (λ q. was_taken q ps) c = s.keeps.calls none in
       let are : s.bytes ≡ pumped ps ++ [] = e ∙ given_open l ps none ∙ sym (append-nil (pumped ps)) in
-      subst (λ (bytes : List ℕ). (first_break ps ≡ None) × (pending start (given l ps) ps ≡ 0 → [] ≡ []) × AllAsked (sent ps) (cut (least_of start) bytes)
+      subst (λ (bytes : List ℕ). (first_break ps ≡ None) × (pending start (given l ps) ps ≡ 0 → ◌≡◌ {A = List ℕ} [] []) × AllAsked (sent ps) (cut (least_of start) bytes)
       × IsNotBad (front (least_of start) max_body (cut (least_of start) bytes).rest) × IsGiven start.left bytes) are (
         none,
         λ _. refl,

@@ -145,7 +145,7 @@ parts_are_submit caches = record {
 
 module _ {L : Type 0} (source : L → SourceState) (sink : L → SinkState) (asks : ChannelAsk) (refused : ChannelFault → GotData) (it : IsSubmit asks refused) where
   abbrev Stands : PendingState → Option L → ChannelStart → List Pair → Type 0
-  Stands c link start ps = ChannelStands source sink c link start ps
+  Stands c link = ChannelStands source sink c link
 
   -- ---- refused before its frame is written
 
