@@ -126,7 +126,7 @@ none_any p (y ∷ xs) none = elim (cases_Bool (p y)) [
 ]
 
 pub any_none : {A : Type 0} (p : A → Bool) (xs : List A) → list_any p xs ≡ false → find p xs ≡ None
-any_none p xs none = go (find p xs) refl where
+any_none {A = A} p xs none = go (find p xs) refl where
   go : (f : Option A) → find p xs ≡ f → f ≡ None
   go None is = refl
   go (Some x) is = absurd (false≢true (sym none ∙ found_any p xs x is))

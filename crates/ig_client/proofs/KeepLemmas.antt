@@ -9,8 +9,8 @@ use Rattle.std.proofs.lemmas.List.{length-append}
 use Rattle.std.proofs.lemmas.List.Folds.{list_any-append, find-append}
 use Rattle.std.proofs.lemmas.Map.Lookups.{exact_signed}
 use Rattle.std.specs.Prelude.{not}
-use Rattle.std.specs.Ordering.{int_cmp, int_eq}
-use Rattle.std.specs.Cmp.{int_cmp_total, eq_by_cmp, Equal-is}
+use Rattle.std.specs.Ordering.{int_cmp, int_eq, eq_by_cmp}
+use Rattle.std.specs.Cmp.{int_cmp_total, Equal-is}
 use Rattle.std.specs.FinMap as map
 use Rattle.std.specs.List.{list_any, find, flat_map}
 use Rattle.std.specs.Option.{option_map, option_or}

@@ -140,6 +140,7 @@ sink_broke start ps p count old new none breaks no_id sends is = record {
   writes = λ t. Rose-after start.write_faults old.faults new.faults is.faults sends.rose;
   written = λ tells.
       let it : (w : List ℕ) × IsWritten ps w × Appends start.written old.written w = is.written (sends.advances.tells tells) in
+      let zero_more : 0 + sent ps ≡ sent ps = omega arith in
       let frames : sent_bytes (ps ++ p ∷ []) ≡ it.0 =
       sent_bytes_more ps p ∙ ap (λ o. sent_bytes ps ++ frame_under p.0 o) no_id ∙ append-nil (sent_bytes ps) ∙ sym (all_sent ps it.0 none it.1) in (
         it.0 ++ take count (Frame (body_of p.0 (pos (sent ps + 1)))),
@@ -147,7 +148,7 @@ sink_broke start ps p count old new none breaks no_id sends is = record {
           take count (Frame (body_of p.0 (pos (sent ps + 1)))),
           drop count (Frame (body_of p.0 (pos (sent ps + 1)))),
           ap (λ (l : List ℕ). l ++ take count (Frame (body_of p.0 (pos (sent ps + 1))))) (sym frames),
-          broken_last 0 ps p none ∙ ap (λ b. cond (breaks_by is_write_fault b) (Frame (body_of p.0 (pos (sent ps + 1)))) []) breaks ∙ sym (take-append-drop count (Frame (body_of p.0 (pos (sent ps + 1))))),
+          broken_last 0 ps p none ∙ ap (λ n. broken_frame n (p ∷ [])) zero_more ∙ ap (λ b. cond (breaks_by is_write_fault b) (Frame (body_of p.0 (pos (sent ps + 1)))) []) breaks ∙ sym (take-append-drop count (Frame (body_of p.0 (pos (sent ps + 1))))),
         ),
         Appends-trans start.written old.written new.written it.0 (take count (Frame (body_of p.0 (pos (sent ps + 1))))) it.2 (sends.advances.written tells),
       );

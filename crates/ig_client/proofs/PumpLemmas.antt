@@ -420,31 +420,31 @@ module _ {L : Type 0} (source : L → SourceState) (sink : L → SinkState) wher
   pub stands_pump : (c new : PendingState) (k k' : L) (answer : TakeNow) (buf : List ℕ) (result : Result (List ℕ) ChannelFault)
       → c.down ≡ None → 1 ≤ c.waiting → length buf ≡ next_read c → AreBytes buf → (source k).stays_untold ≡ true → sink k' ≡ sink k
       → ReadsNowAs answer (source k) (source k') buf → steps.Files answer buf c new result → Gains (Stands c (Some k)) (Stands new (Some k')) (pump_pair result)
-  stands_pump c new k k' (now.Bytes n) buf (Ok bytes) up some size are untold same reads files start ps s =
+  stands_pump c new k k' (now.Bytes n) buf (Ok bytes) up some size bytes_are untold same reads files = λ start ps s.
       let len : length (take n buf) ≡ n = length-take-le n buf reads.fits in
       let is : new ≡ filed (take n buf) c = files.1 ∙ ap (λ (l : List ℕ). filed l c) files.0 in
       subst (λ (m : PendingState). Stands m (Some k') start (ps ++ (ask.Pump, got.Pumped bytes) ∷ [])) (sym is)
       (subst (λ (l : List ℕ). Stands (filed (take n buf) c) (Some k') start (ps ++ (ask.Pump, got.Pumped l) ∷ [])) (sym files.0)
-      (stands_pumped c k k' up some start ps s untold same (take n buf) (are_taken n buf are) (omega (arith, len, reads.some)) (omega (arith, len, reads.fits, size))
+      (stands_pumped c k k' up some start ps s untold same (take n buf) (are_taken n buf bytes_are) (omega (arith, len, reads.some)) (omega (arith, len, reads.fits, size))
       reads.advances reads.pauses (sym (ap (λ (m : PendingState). m.down) is) ∙ files.2)))
-  stands_pump c new k k' (now.Bytes n) buf (Err cause) up some size are untold same reads files =
+  stands_pump c new k k' (now.Bytes n) buf (Err cause) up some size bytes_are untold same reads files =
       let len : length (take n buf) ≡ n = length-take-le n buf reads.fits in
       subst (λ (f : ChannelFault). Gains (Stands c (Some k)) (Stands new (Some k')) (pump_pair (Err f))) (sym files.3)
       (λ start ps s. subst (λ (m : PendingState). Stands m (Some k') start (ps ++ (ask.Pump, got.NotPumped (fault.Broke files.1)) ∷ [])) (sym files.0)
-      (stands_filed_broke c k k' up some start ps s untold same (take n buf) files.1 (are_taken n buf are) (omega (arith, len, reads.some)) (omega (arith, len, reads.fits, size))
+      (stands_filed_broke c k k' up some start ps s untold same (take n buf) files.1 (are_taken n buf bytes_are) (omega (arith, len, reads.some)) (omega (arith, len, reads.fits, size))
       reads.advances reads.pauses (sym (ap (λ (m : PendingState). m.down) files.0) ∙ files.2)))
-  stands_pump c new k k' now.NotYet buf result up some size are untold same reads files =
+  stands_pump c new k k' now.NotYet buf result up some size bytes_are untold same reads files =
       subst (λ (r : Result (List ℕ) ChannelFault). Gains (Stands c (Some k)) (Stands new (Some k')) (pump_pair r)) (sym files.0)
       (λ start ps s. subst (λ (m : PendingState). Stands m (Some k') start (ps ++ (ask.Pump, got.Pumped []) ∷ [])) (sym files.1)
       (stands_paused c k k' up some start ps s untold same reads))
-  stands_pump c new k k' now.End buf result up some size are untold same reads files =
+  stands_pump c new k k' now.End buf result up some size bytes_are untold same reads files =
       subst (λ (r : Result (List ℕ) ChannelFault). Gains (Stands c (Some k)) (Stands new (Some k')) (pump_pair r)) (sym files.0)
       (λ start ps s. subst (λ (m : PendingState). Stands m (Some k') start (ps ++ (ask.Pump, got.NotPumped (fault.Broke break.PeerEnded)) ∷ [])) (sym files.1)
       (stands_lost c k k' up some start ps s untold same break.PeerEnded refl refl reads.advances (λ t. absurd (false≢true t)) (λ t. reads.ended) reads.pauses
       (λ l held. given_all start.left (source k).left (pumped ps)
       (subst (Consumes start.left (source k).left) (s.given_are ∙ given_open s.last ps (sym s.keeps.down ∙ up)) s.link_is.1.left)
       s.link_is.1.untold (reads.whole (s.link_is.1.holds held)))))
-  stands_pump c new k k' now.Failed buf result up some size are untold same reads files =
+  stands_pump c new k k' now.Failed buf result up some size bytes_are untold same reads files =
       subst (λ (r : Result (List ℕ) ChannelFault). Gains (Stands c (Some k)) (Stands new (Some k')) (pump_pair r)) (sym files.0)
       (λ start ps s. subst (λ (m : PendingState). Stands m (Some k') start (ps ++ (ask.Pump, got.NotPumped (fault.Broke break.ReadFault)) ∷ [])) (sym files.1)
       (stands_lost c k k' up some start ps s untold same break.ReadFault refl refl reads.advances (λ t. reads.rose) (λ t. absurd (false≢true t)) reads.pauses
@@ -496,14 +496,14 @@ module _ {L : Type 0} (source : L → SourceState) (sink : L → SinkState) wher
   ]
 
   gains_after : (A B C : ChannelStart → List Pair → Type 0) (pair : Option Pair) → ((start : ChannelStart) (ps : List Pair) → A start ps → B start ps) → Gains B C pair → Gains A C pair
-  gains_after A B C None first then start ps a = then start ps (first start ps a)
-  gains_after A B C (Some p) first then start ps a = then start ps (first start ps a)
+  gains_after A B C None first then = λ start ps a. then start ps (first start ps a)
+  gains_after A B C (Some p) first then = λ start ps a. then start ps (first start ps a)
 
   pub stands_read : (old mid new : PendingState) (k k' : L) (answer : TakeNow) (piece buf : List ℕ) (result : Result (List ℕ) ChannelFault)
       → steps.TakesRoom old mid (Ok piece) → 1 ≤ length piece → length buf ≡ length piece → AreBytes buf → (source k).stays_untold ≡ true → sink k' ≡ sink k
       → ReadsNowAs answer (source k) (source k') buf → steps.Files answer buf mid new result → Gains (Stands old (Some k)) (Stands new (Some k')) (pump_pair result)
-  stands_read old mid new k k' answer piece buf result room some size are untold same reads files =
+  stands_read old mid new k k' answer piece buf result room some size bytes_are untold same reads files =
       let it : (1 ≤ old.waiting) × (mid ≡ with_room old) × (length piece ≡ next_read old) = room_is old mid piece room some in
       gains_after (Stands old (Some k)) (Stands (with_room old) (Some k)) (Stands new (Some k')) (pump_pair result) (stands_room old (Some k))
-      (stands_pump (with_room old) new k k' answer buf result room.0 it.0 (size ∙ it.2) are untold same reads
+      (stands_pump (with_room old) new k k' answer buf result room.0 it.0 (size ∙ it.2) bytes_are untold same reads
       (subst (λ (m : PendingState). steps.Files answer buf m new result) it.1 files))

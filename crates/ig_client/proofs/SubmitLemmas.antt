@@ -248,7 +248,7 @@ module _ {L : Type 0} (source : L → SourceState) (sink : L → SinkState) (ask
       unbroken : first_break ps ≡ None
       unbroken = none (Some k) start ps s
 
-      its_break : break_of (asks, refused (fault.Broke WriteFault)).1 ≡ Some WriteFault
+      its_break : break_of (refused (fault.Broke WriteFault)) ≡ Some WriteFault
       its_break = it.breaks (fault.Broke WriteFault)
 
       breaks : first_break (ps ++ (asks, refused (fault.Broke WriteFault)) ∷ []) ≡ Some WriteFault

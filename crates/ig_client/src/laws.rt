@@ -2,8 +2,8 @@
 
 ghost use Rattle.ig_client.specs.Cutting.{CutsRightly};
 
-/// What a server sends after its reply to the hello is cut into frames in one way alone, and that is the
-/// cut that the contracts of this crate speak of.
+/// What the contracts of this crate take for the frames of what a server sends after its reply to the
+/// hello is the cut of these bytes into frames.
 pub fn replies_are_cut()
     ensures { CutsRightly }
 {}
