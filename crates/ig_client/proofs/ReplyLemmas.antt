@@ -1,5 +1,5 @@
 -- What a call of std's map leaves of the calls that contracts see.
-use Rattle.std.proofs.Common.{◌≡◌, cond, ℕ, ℤ, List, Option, None, Some, sym, ap, ◌∙◌}
+use Rattle.std.proofs.Common.{◌≡◌, cond, ℕ, ℤ, List, Option, None, Some, Result, Ok, Err, OnOk, OnErr, refl, sym, ap, ◌∙◌}
 use Rattle.std.proofs.lemmas.Map.Lookups.{exact_signed}
 use Rattle.std.specs.BTreeMap.{is_at}
 use Rattle.std.specs.Map.{lookup}
@@ -31,3 +31,13 @@ removed_at es fs key id is updates =
     ∙ ap (λ b. cond b None (lookup (is_at (int_cmp q)) es)) ((eq_by_cmp_equiv int_cmp_total).symm key q)
     ∙ sym (get-remove int_cmp_total (map_of es) key q ∙ ap (cond (is_at (int_cmp q) key) None) (get_entries int_cmp int_cmp_total es q)))
     ∙ ap (remove (map_of es)) is
+
+-- a call that waits is there
+pub never_absent : (es : List (ℤ × Option (List ℕ))) (key id : ℤ) → key ≡ id → get (map_of es) id ≡ Some None → lookup (is_at (int_cmp key)) es ≡ None → ⊥
+never_absent es key id is waits absent =
+    let both : Some None ≡ None = sym waits ∙ sym (found es (lookup (is_at (int_cmp key)) es) key id is refl) ∙ absent in cc
+
+-- what holds at each result that may come
+pub settled : {X E : Type 0} (r : Result X E) (P Q : Type 0) → OnOk r P → OnErr r Q → (Q → ⊥) → P
+settled (Ok x) P Q done refused never = done
+settled (Err e) P Q done refused never = absurd (never refused)

@@ -225,7 +225,7 @@ module _ {L : Type 0} (source : L → SourceState) (sink : L → SinkState) (ask
           let before : s.bytes ≡ given l ps = e ∙ given_then l in
           let made : outcome start (given l ps) ps asks ≡ Ok id = outcome_over c (Some k) start ps (Ok id) s l before is in
           each_more start l [] ps (asks, refused (fault.Broke WriteFault)) (s.each l before)
-          (it.refused_may start l ps (fault.Broke WriteFault) (subst IsOk (sym made) tt, failed));
+          (it.refused_may start l ps (fault.Broke WriteFault) (subst IsOk (sym made) refl, failed));
       keeps = record {
         least = s.keeps.least;
         down = sym breaks;

@@ -14,7 +14,11 @@ pub(crate) type Replies = BTreeMap<i64, Option<Octets>>;
 pub(crate) fn is_waiting(replies: &Replies, id: i64) -> bool
     ensures { result ≡ is_waiting (map.get (map_of replies.now.entries) id) }
 {
-    matches!(replies.get(&id), Some(None))
+    match replies.get(&id) {
+        Some(None) => true,
+        Some(Some(_)) => false,
+        None => false,
+    }
 }
 
 /// Adds a call without a reply. On an error nothing was added.
@@ -40,8 +44,10 @@ pub(crate) fn take_reply(replies: &mut Replies, id: i64) -> Option<Octets>
     ensures frame { result ≡ came (map.get (map_of replies.old.entries) id) }
     ensures new { map_of replies.new.entries ≡ left_by id result (map_of replies.old.entries) }
 {
-    let Some(Some(_)) = replies.get(&id) else {
-        return None;
-    };
+    match replies.get(&id) {
+        Some(Some(_)) => {}
+        Some(None) => return None,
+        None => return None,
+    }
     replies.remove(&id)?
 }
