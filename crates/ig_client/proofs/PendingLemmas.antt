@@ -1,80 +1,23 @@
 -- The calls of a channel without its link, as plain data.
-use Rattle.std.proofs.Common.{◌≡◌, cond, ℕ, ◌+◌, ◌-◌, ◌^◌, ◌<◌, ◌≤◌, ℤ, pos, Bool, true, false, List, [], ◌∷◌, ◌++◌, length, take, min, Option, None, Some, Result, Ok, Err, inl, inr, refl, sym, ap, subst, ◌∙◌, arith, append-nil}
-use Rattle.std.proofs.lemmas.Bool.{cond-true, cond-false, lt-ltb, le-ltb, ltb-true, cases_Bool}
-use Rattle.std.specs.Prelude.{nat_lt, nat_le}
+use Rattle.std.proofs.Common.{◌≡◌, cond, ℕ, ◌+◌, ◌-◌, ◌^◌, ℤ, pos, w64, Bool, true, false, List, [], ◌++◌, length, take, drop, min, Option, None, Some, refl, sym, ap, ◌∙◌, arith}
+use Rattle.std.proofs.lemmas.Bool.{cond-true, cond-false}
 use Rattle.std.specs.FinMap as map
-use Rattle.ig_base.specs.Frames.{Front, Body, Bad, Incomplete, front, max_body}
-use Rattle.ig_base.proofs.FrameLemmas.{front-short}
-use Rattle.ig_wire.specs.Limits.{most_pending_calls}
-use Rattle.ig_client.specs.PendingState.{PendingState, IsKept, OrNoMemory, offered, next_after, next_id, last_id, with_call, with_bytes, with_front, with_reply, filed, broken, is_waiting, id_of}
-use Rattle.ig_client.specs.declared.fault.Break.{Break}
-use Rattle.ig_client.specs.declared.fault.Break.TheVariants.{BadFrame, Unasked}
-use Rattle.ig_client.specs.declared.fault.ChannelFault.{ChannelFault}
-use Rattle.ig_client.specs.declared.fault.ChannelFault.TheVariants as fault
+use Rattle.std.specs.Option.{unwrap_or}
+use Rattle.ig_base.specs.Numbers.{number_at}
+use Rattle.ig_base.specs.Frames.{Front, Body, front, max_body}
+use Rattle.ig_client.specs.PendingState.{PendingState, Replies, with_front, with_reply, filed, broken, is_waiting, id_of}
+use Rattle.ig_client.specs.declared.fault.Break.TheVariants.{Unasked}
 
--- ---- the next identifier
+-- the bytes that were added, where there was memory
+pub extended : (was more now : List ℕ) (ok : Bool) → now ≡ cond ok (was ++ more) was → ok ≡ true → now ≡ was ++ more
+extended was more now ok is done = is ∙ cond-true ok (was ++ more) was done
 
-pub next_down : (c : PendingState) (cause : Break) → c.down ≡ Some cause → Err (fault.Down cause) ≡ next_id c
-next_down c cause down = sym (ap (λ d. next_after d c.last c.waiting) down)
-
-pub next_spent : (c : PendingState) → c.down ≡ None → 2 ^ 63 - 1 ≤ c.last → Err fault.Spent ≡ next_id c
-next_spent c up spent =
-    sym (ap (λ d. next_after d c.last c.waiting) up
-    ∙ cond-false (nat_lt c.last last_id) (cond (nat_lt c.waiting most_pending_calls) (Ok (pos (c.last + 1))) (Err fault.Full)) (Err fault.Spent) (le-ltb last_id c.last spent))
-
-left : (c : PendingState) → c.down ≡ None → c.last < 2 ^ 63 - 1 → next_id c ≡ cond (nat_lt c.waiting most_pending_calls) (Ok (pos (c.last + 1))) (Err fault.Full)
-left c up more =
-    ap (λ d. next_after d c.last c.waiting) up
-    ∙ cond-true (nat_lt c.last last_id) (cond (nat_lt c.waiting most_pending_calls) (Ok (pos (c.last + 1))) (Err fault.Full)) (Err fault.Spent) (lt-ltb c.last last_id more)
-
-pub next_full : (c : PendingState) → c.down ≡ None → c.last < 2 ^ 63 - 1 → 1024 ≤ c.waiting → Err fault.Full ≡ next_id c
-next_full c up more full =
-    sym (left c up more ∙ cond-false (nat_lt c.waiting most_pending_calls) (Ok (pos (c.last + 1))) (Err fault.Full) (le-ltb most_pending_calls c.waiting full))
-
-pub next_ok : (c : PendingState) → c.down ≡ None → c.last < 2 ^ 63 - 1 → c.waiting < 1024 → Ok (pos (c.last + 1)) ≡ next_id c
-next_ok c up more room =
-    sym (left c up more ∙ cond-true (nat_lt c.waiting most_pending_calls) (Ok (pos (c.last + 1))) (Err fault.Full) (lt-ltb c.waiting most_pending_calls room))
-
--- what an identifier says of the channel that gave it
-pub record Gives (c : PendingState) (id : ℤ) : Type 0 where
-  pub up : c.down ≡ None
-  pub more : c.last < 2 ^ 63 - 1
-  pub room : c.waiting < 1024
-  pub is : id ≡ pos (c.last + 1)
-
-gives_from : (c : PendingState) (id : ℤ) (d : Option Break) (a b : Bool) → c.down ≡ d → nat_lt c.last last_id ≡ a → nat_lt c.waiting most_pending_calls ≡ b
-    → next_after d c.last c.waiting ≡ Ok id → Gives c id
-gives_from c id (Some cause) a b down at_last at_room is = cc
-gives_from c id None true true down at_last at_room is =
-    let given : Ok (pos (c.last + 1)) ≡ Ok id =
-    sym (cond-true (nat_lt c.last last_id) (cond (nat_lt c.waiting most_pending_calls) (Ok (pos (c.last + 1))) (Err fault.Full)) (Err fault.Spent) at_last
-    ∙ cond-true (nat_lt c.waiting most_pending_calls) (Ok (pos (c.last + 1))) (Err fault.Full) at_room) ∙ is in
-    let same : id ≡ pos (c.last + 1) = cc in
-    record { up = down; more = ltb-true c.last last_id at_last; room = ltb-true c.waiting most_pending_calls at_room; is = same }
-gives_from c id None true false down at_last at_room is =
-    let given : Err fault.Full ≡ Ok id =
-    sym (cond-true (nat_lt c.last last_id) (cond (nat_lt c.waiting most_pending_calls) (Ok (pos (c.last + 1))) (Err fault.Full)) (Err fault.Spent) at_last
-    ∙ cond-false (nat_lt c.waiting most_pending_calls) (Ok (pos (c.last + 1))) (Err fault.Full) at_room) ∙ is in
-    cc
-gives_from c id None false b down at_last at_room is =
-    let given : Err fault.Spent ≡ Ok id =
-    sym (cond-false (nat_lt c.last last_id) (cond (nat_lt c.waiting most_pending_calls) (Ok (pos (c.last + 1))) (Err fault.Full)) (Err fault.Spent) at_last) ∙ is in
-    cc
-
-pub gives : (c : PendingState) (id : ℤ) → next_id c ≡ Ok id → Gives c id
-gives c id is = gives_from c id c.down (nat_lt c.last last_id) (nat_lt c.waiting most_pending_calls) refl refl refl is
-
--- ---- a request that is offered
-
--- the refusal, told as an answer that isn't want of memory
-pub refusal : (answer : Result ℤ ChannelFault) (cause : ChannelFault) → answer ≡ Err cause → OrNoMemory answer cause
-refusal answer (fault.Broke cause) is = is
-refusal answer (fault.Down cause) is = is
-refusal answer (fault.BadReply place) is = is
-refusal answer fault.TooLong is = is
-refusal answer fault.Full is = is
-refusal answer fault.Spent is = is
-refusal answer fault.NoMemory is = tt
+-- the identifier that was read in the frame's body
+pub id_read : (all : List ℕ) (len : ℕ) (read : Option ℤ) (raw id : ℤ) → read ≡ number_at w64 (take (4 + len - 4) (drop 4 all)) 0 → raw ≡ unwrap_or read (pos 0) → id ≡ raw
+    → id ≡ id_of (take len (drop 4 all))
+id_read all len read raw id is value same =
+    let count : 4 + len - 4 ≡ len = omega arith in
+    same ∙ value ∙ ap (λ (o : Option ℤ). unwrap_or o (pos 0)) is ∙ ap (λ n. id_of (take n (drop 4 all))) count
 
 -- ---- the bytes of a frame
 
@@ -102,3 +45,25 @@ pub waiting_is : (x : Option (Option (List ℕ))) → is_waiting x ≡ true → 
 waiting_is None is = cc
 waiting_is (Some None) is = refl
 waiting_is (Some (Some frame)) is = cc
+
+-- the frame that was being read is filed
+pub files_reply : (c : PendingState) (piece items body rest : List ℕ) (id : ℤ) (waiting place : ℕ) (replies : Replies) (part : List ℕ)
+    → items ≡ c.part ++ piece → front c.least max_body items ≡ Body body rest → id ≡ id_of body → is_waiting (map.get c.replies id) ≡ true
+    → waiting ≡ c.waiting - 1 → replies ≡ map.insert c.replies id (Some items) → place ≡ min (c.place + length items) (2 ^ 64 - 1) → part ≡ []
+    → (record { least = c.least; last = c.last; waiting = waiting; replies = replies; place = place; part = part; room = 0; down = c.down }) ≡ filed piece c
+files_reply c piece items body rest id waiting place replies part are at is waits waiting_is replies_are place_is part_is =
+    let step : filed piece c ≡ with_reply id (with_part items c) =
+    filed_as c piece items (Body body rest) are at ∙ filed_reply (with_part items c) body rest id is waits in
+    let make : ℕ → Replies → ℕ → List ℕ → PendingState =
+    λ w r p l. record { least = c.least; last = c.last; waiting = w; replies = r; place = p; part = l; room = 0; down = c.down } in
+    ap (λ w. make w replies place part) waiting_is
+    ∙ ap (λ r. make (c.waiting - 1) r place part) replies_are
+    ∙ ap (λ p. make (c.waiting - 1) (map.insert c.replies id (Some items)) p part) place_is
+    ∙ ap (λ (l : List ℕ). make (c.waiting - 1) (map.insert c.replies id (Some items)) (min (c.place + length items) (2 ^ 64 - 1)) l) part_is
+    ∙ sym step
+
+-- the frame that was being read wasn't asked for
+pub files_unasked : (c : PendingState) (piece items body rest : List ℕ) (id : ℤ) → items ≡ c.part ++ piece → front c.least max_body items ≡ Body body rest → id ≡ id_of body
+    → is_waiting (map.get c.replies id) ≡ false → broken (Unasked id) (with_part items c) ≡ filed piece c
+files_unasked c piece items body rest id are at is unasked =
+    sym (filed_as c piece items (Body body rest) are at ∙ filed_unasked (with_part items c) body rest id is unasked)
