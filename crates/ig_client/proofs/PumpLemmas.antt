@@ -1,9 +1,11 @@
 -- What a channel stands for after a pump.
-use Rattle.std.proofs.Common.{◌≡◌, cond, ℕ, ◌+◌, ◌-◌, ◌^◌, ◌<◌, ◌≤◌, ◌⊎◌, ℤ, pos, Bool, true, false, ◌||◌, List, [], ◌∷◌, ◌++◌, length, min, take, Option, None, Some, Result, Ok, Err, inl, inr, refl, sym, ap, subst, ◌∙◌, arith, append-nil, length-take-le}
+use Rattle.std.proofs.Common.{◌≡◌, cond, ℕ, ◌+◌, ◌-◌, ◌^◌, ◌<◌, ◌≤◌, ◌⊎◌, ℤ, pos, Bool, true, false, ◌||◌, List, [], ◌∷◌, ◌++◌, length, min, take, drop, Option, None, Some, Result, Ok, Err, inl, inr, refl, sym, ap, subst, ◌∙◌, arith, append-nil, length-take-le}
 use Rattle.std.proofs.lemmas.Bool.{false≢true, false_from_ne_true, cond-true, cond-false, leb-true, ltb-true}
 use Rattle.std.proofs.lemmas.List.{append_cancel_left}
 use Rattle.std.specs.Prelude.{nat_lt}
 use Rattle.std.proofs.KnownBytes.{Consumes-trans}
+use Rattle.std.proofs.Math.Seq.{take-append_seam}
+use Rattle.std.specs.Result.{IsErr, IsErrAnd}
 use Rattle.std.specs.FinMap as map
 use Rattle.std.specs.Io.KnownBytes.{Consumes}
 use Rattle.std.specs.List.{flat_map}
@@ -507,3 +509,16 @@ module _ {L : Type 0} (source : L → SourceState) (sink : L → SinkState) wher
       gains_after (Stands old (Some k)) (Stands (with_room old) (Some k)) (Stands new (Some k')) (pump_pair result) (stands_room old (Some k))
       (stands_pump (with_room old) new k k' answer buf result room.0 it.0 (size ∙ it.2) bytes_are untold same reads
       (subst (λ (m : PendingState). steps.Files answer buf m new result) it.1 files))
+
+-- ---- what the steps' answers are
+
+-- the bytes of a piece after a read into the whole of it
+pub read_into : (piece buf : List ℕ) (len : ℕ) → len ≡ length piece → length buf ≡ length piece → take len (buf ++ drop (length buf) piece) ≡ buf
+read_into piece buf len all same =
+    let n : len ≡ length buf = omega (arith, all, same) in
+    ap (λ m. take m (buf ++ drop (length buf) piece)) n ∙ take-append_seam buf (drop (length buf) piece)
+
+-- a refusal that is handed on
+pub handed_on : (result : Result (List ℕ) ChannelFault) (cause : ChannelFault) → IsErr result → IsErrAnd result (λ e. e ≡ cause) → result ≡ Err cause
+handed_on (Ok bytes) cause err is = absurd is
+handed_on (Err other) cause err is = ap Err is
