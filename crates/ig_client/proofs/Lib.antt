@@ -9,5 +9,6 @@ pub mod SubmitLemmas
 pub mod PumpLemmas
 pub mod StartLemmas
 pub mod PendingLemmas
+pub mod GreetLemmas
 pub mod ReplyLemmas
 mod WorkedRuns
