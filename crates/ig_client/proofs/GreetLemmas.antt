@@ -1,13 +1,21 @@
 -- What a handshake reads and writes, over plain data.
-use Rattle.std.proofs.Common.{◌≡◌, ℕ, ◌+◌, ◌-◌, ◌<◌, ◌≤◌, List, [], ◌++◌, length, take, drop, Result, Ok, Err, IfErr, subst, sym, ap, ◌∙◌, arith, append_assoc, length-append, length-take, length-drop}
+use Rattle.std.proofs.Common.{◌≡◌, ℕ, ◌+◌, ◌-◌, ◌<◌, ◌≤◌, true, false, List, [], ◌++◌, length, take, drop, Option, Result, Ok, Err, IfErr, OnOk, subst, sym, ap, ◌∙◌, arith, append_assoc, append-nil, take-append-drop, length-append, length-take, length-drop}
 use Rattle.std.proofs.lemmas.List.{take-take, take_all, take_at, take-append-le, drop_all, drop-append-le}
 use Rattle.std.proofs.Math.Seq.{take-append-add}
-use Rattle.std.specs.Result.{IsErrAnd}
-use Rattle.ig_base.specs.Frames.{Body, Incomplete, front, max_body}
-use Rattle.ig_base.proofs.FrameLemmas.{front-short, front-fewer, front-completed}
-use Rattle.ig_link.specs.States.{SourceState, SourceAdvances}
+use Rattle.std.specs.Result.{IsErrAnd, is_err}
+use Rattle.ig_base.specs.Numbers.{AreBytes}
+use Rattle.ig_base.specs.declared.NodeId.{NodeId}
+use Rattle.ig_base.specs.Frames.{Frame, Body, Incomplete, front, max_body}
+use Rattle.ig_base.proofs.FrameLemmas.{front-short, front-fewer, front-completed, front-within, front-reads}
+use Rattle.ig_link.specs.States.{SourceState, SinkState, SourceAdvances, SinkAdvances}
+use Rattle.ig_link.specs.WritesAs.{SentPart}
+use Rattle.ig_link.specs.declared.send.SendFault.{SendFault}
+use Rattle.ig_wire.specs.Greets.{hello_bytes}
+use Rattle.ig_wire.specs.HelloReplies.{hello_reply_of}
+use Rattle.ig_wire.specs.declared.Login.{Login}
+use Rattle.ig_wire.specs.declared.Version.{Version}
 use Rattle.ig_link.proofs.StateLemmas.{SourceAdvances-nothing, SourceAdvances-then, Rose-after}
-use Rattle.ig_client.specs.Greeted.{ReadsFrame, ReadsOn}
+use Rattle.ig_client.specs.Greeted.{Greeted, Answered, ReadsFrame, ReadsOn}
 use Rattle.ig_client.specs.declared.fault.Break.TheVariants as break
 use Rattle.ig_client.specs.declared.fault.HandshakeFault.{HandshakeFault}
 use Rattle.ig_client.specs.declared.fault.HandshakeFault.TheVariants as fault
@@ -92,3 +100,50 @@ bare_read start source first len before at = (
   at ∙ ap (λ (l : List ℕ). Body l (drop (4 + len) first)) (take_all len (drop 4 first) (omega (arith, length-drop 4 first, before.0)))
       ∙ ap (Body (drop 4 first)) (drop_all (4 + len) first (omega (arith, before.0))),
 )
+
+-- ---- the whole handshake
+
+-- what holds of a call that didn't fail
+pub ok_holds : {T E : Type 0} (result : Result T E) (P : Type 0) → is_err result ≡ false → OnOk result P → P
+ok_holds (Ok x) P fine holds = holds
+ok_holds (Err e) P fine holds = cc
+
+-- the hello wasn't written whole
+pub hello_failed : (version : Version) (login : Option Login) (source source' : SourceState) (sink sink' : SinkState) (piece : List ℕ) (result : Result (Unit {0}) SendFault) → is_err result ≡ true
+    → IfErr result (λ e. SentPart e.sent sink sink' piece) → piece ≡ Frame (hello_bytes version login) → source' ≡ source
+    → Greeted version login source source' sink sink' (Err (fault.Broke break.WriteFault))
+hello_failed version login source source' sink sink' piece (Ok x) failed sends is same = cc
+hello_failed version login source source' sink sink' piece (Err e) failed sends is same = (
+  take e.sent piece,
+  drop e.sent piece,
+  sym is ∙ sym (take-append-drop e.sent piece),
+  sends.advances,
+  sends.rose,
+  subst (λ s. SourceAdvances source s []) (sym same) (SourceAdvances-nothing source),
+)
+
+-- the bytes of a whole frame after its length
+pub after_length : (bytes frame : List ℕ) → bytes ≡ frame → take (length bytes - 4) (drop 4 bytes) ≡ drop 4 frame
+after_length bytes frame is = take_all (length bytes - 4) (drop 4 bytes) (omega (arith, length-drop 4 bytes)) ∙ ap (drop 4) is
+
+-- a whole frame has a length
+pub has_length : (frame : List ℕ) → front 1 max_body frame ≡ Body (drop 4 frame) [] → 4 ≤ length frame
+has_length frame at = let inside : 4 + length (drop 4 frame) ≤ length frame = (front-within 1 max_body frame (drop 4 frame) [] at).0 in omega (arith, inside)
+
+-- the hello was written and the reply to it came
+pub greeted_by : (version : Version) (login : Option Login) (source source' : SourceState) (sink sink' : SinkState) (frame : List ℕ) (result : Result (Option NodeId) HandshakeFault)
+    → SinkAdvances sink sink' (Frame (hello_bytes version login)) → ReadsFrame source source' (Ok frame) → AreBytes frame
+    → Answered (hello_reply_of version (drop 4 frame)) (drop 4 frame) result → Greeted version login source source' sink sink' result
+greeted_by version login source source' sink sink' frame result sent reads are answers = go result answers where
+  spelled : frame ≡ Frame (drop 4 frame)
+  spelled = (front-reads 1 max_body frame (drop 4 frame) [] are reads.1).1 ∙ append-nil (Frame (drop 4 frame))
+
+  reads_body : ReadsFrame source source' (Ok (Frame (drop 4 frame)))
+  reads_body = subst (λ (l : List ℕ). ReadsFrame source source' (Ok l)) spelled reads
+
+  go : (r : Result (Option NodeId) HandshakeFault) → Answered (hello_reply_of version (drop 4 frame)) (drop 4 frame) r → Greeted version login source source' sink sink' r
+  go (Ok named) a = (drop 4 frame, sent, reads_body, a)
+  go (Err (fault.Refused v text)) a = (drop 4 frame, sent, reads_body, a)
+  go (Err (fault.BadReply place)) a = (drop 4 frame, sent, reads_body, a)
+  go (Err fault.NoMemory) a = tt
+  go (Err (fault.Broke cause)) a = absurd a

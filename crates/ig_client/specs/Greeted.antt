@@ -83,6 +83,6 @@ GreetedInVain version login source sink cause shown =
 
 -- The link of a channel that was started.
 abbrev pub GreetedWell : {L : Type 0} → (L → SourceState) → (L → SinkState) → Version → Option Login → L → Option L → Option NodeId → Type 0
-GreetedWell source sink version login before (Some after) node =
-    Greeted version login (source before) (source after) (sink before) (sink after) (Ok node)
-GreetedWell source sink version login before None node = ⊥
+GreetedWell source sink version login before (Some after) told =
+    Greeted version login (source before) (source after) (sink before) (sink after) (Ok told)
+GreetedWell source sink version login before None told = ⊥

@@ -1,7 +1,8 @@
 //! The handshake: a client's hello, and the server's reply to it.
 
-ghost use Rattle.std.specs.Prelude.{◌≡◌, ◌≤◌, length, Ok, Err, IfOk, IfErr};
+ghost use Rattle.std.specs.Prelude.{◌≡◌, ◌≤◌, length, drop, Ok, Err, IfOk, IfErr};
 ghost use Rattle.std.specs.Option.{option_copied};
+ghost use Rattle.ig_base.specs.Numbers.{AreBytes};
 ghost use Rattle.ig_base.specs.Frames.{max_body};
 ghost use Rattle.ig_wire.specs.Greets.{MayLogin, hello_bytes};
 ghost use Rattle.ig_wire.specs.HelloReplies.{hello_reply_of};
@@ -44,11 +45,20 @@ pub(crate) fn greet<D: Duplex>(
         return Err(HandshakeFault::Broke(Break::WriteFault));
     }
     let frame = read_frame(alloc, link)?;
-    node_in(alloc, version, &frame[LENGTH_BYTES..])
+    node_in(alloc, version, frame.as_slice())
+}
+
+/// The node that the frame of the reply to a hello names, if it accepts the hello.
+fn node_in(alloc: Global, version: Version, frame: &[u8]) -> Result<Option<NodeId>, HandshakeFault>
+    requires { 4 ≤ length frame.now }
+    ensures answer { Answered (hello_reply_of version (drop 4 frame.now)) (drop 4 frame.now) result }
+    ensures bytes { AreBytes frame.now }
+{
+    node_of(alloc, version, &frame[LENGTH_BYTES..])
 }
 
 /// The node that the reply to a hello names, if it accepts the hello.
-fn node_in(alloc: Global, version: Version, body: &[u8]) -> Result<Option<NodeId>, HandshakeFault>
+fn node_of(alloc: Global, version: Version, body: &[u8]) -> Result<Option<NodeId>, HandshakeFault>
     ensures { Answered (hello_reply_of version body.now) body.now result }
 {
     match read_hello_reply(alloc, version, body) {
