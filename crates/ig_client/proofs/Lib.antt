@@ -10,5 +10,6 @@ pub mod PumpLemmas
 pub mod StartLemmas
 pub mod PendingLemmas
 pub mod GreetLemmas
+pub mod ActLemmas
 pub mod ReplyLemmas
 mod WorkedRuns
