@@ -139,11 +139,11 @@ module _ {A : Type 0} (shows : A → Retired) (old new : Standing) (asks : Chann
 
 -- a channel that tells a break is down
 pub is_down : (down told : Option Break) (none : Bool) → told ≡ down → is_some told ≡ not none → none ≡ false → down ≡ None → ⊥
-is_down down told none same is no open = false≢true (sym (ap is_some (same ∙ open)) ∙ is ∙ ap not no)
+is_down down told none same is none_is up = false≢true (sym (ap is_some (same ∙ up)) ∙ is ∙ ap not none_is)
 
 -- one that tells none isn't
 pub is_open : (down told : Option Break) (none : Bool) → told ≡ down → is_some told ≡ not none → none ≡ true → (cause : Break) → down ≡ Some cause → ⊥
-is_open down told none same is so cause broke = false≢true (sym (sym (ap is_some (same ∙ broke)) ∙ is ∙ ap not so))
+is_open down told none same is none_is cause broke = false≢true (sym (sym (ap is_some (same ∙ broke)) ∙ is ∙ ap not none_is))
 
 module _ {L : Type 0} (source : L → SourceState) (sink : L → SinkState) (asks : ChannelAsk) where
   abbrev pub Stood : PendingState → Option L → Standing
