@@ -1,7 +1,7 @@
 -- What a channel stands for after a submit.
 use Rattle.std.proofs.Common.{◌≡◌, cond, ℕ, ◌+◌, ◌-◌, ◌⊎◌, ℤ, pos, Bool, true, false, ◌||◌, List, [], ◌∷◌, ◌++◌, length, Option, None, Some, Result, Ok, Err, IsOk, inl, inr, refl, sym, ap, subst, ◌∙◌, arith, append-nil}
 use Rattle.std.proofs.lemmas.Bool.{false≢true}
-use Rattle.std.specs.Prelude.{nat_lt, nat_le}
+use Rattle.std.specs.Prelude.{nat_lt, nat_le, IsSome}
 use Rattle.ig_base.specs.Frames.{Frame, max_body}
 use Rattle.ig_link.specs.States.{SourceState, SinkState, SinkAdvances}
 use Rattle.ig_link.specs.WritesAs.{SentPart}
@@ -88,6 +88,12 @@ same_source source beside is (Some k) (Some k') same = sym (is k') ∙ same ∙ 
 same_source source beside is (Some k) None same = absurd same
 same_source source beside is None (Some k') same = absurd same
 same_source source beside is None None same = tt
+
+-- a link that is there is there after a step that leaves what it is as a source
+pub still_linked : {L : Type 0} (source : L → SourceState) (link link' : Option L) → steps.SameSource source link link' → IsSome link → IsSome link'
+still_linked source (Some k) (Some k') same is = refl
+still_linked source (Some k) None same is = absurd same
+still_linked source None link' same is = absurd (false≢true is)
 
 -- ---- submits of either kind
 

@@ -60,7 +60,9 @@ impl<L: Link> Channel<L> {
         requires login { MayLogin version (option_copied login) }
         requires small { length (hello_bytes version (option_copied login)) ≤ max_body }
         ensures stands { IfOk result (λ channel. ChannelStands L.source L.sink channel.pending channel.link
-            (start_of version L.source L.sink channel.link) []) }
+            (start_of channel.version L.source L.sink channel.link) []) }
+        ensures version { IfOk result (λ channel. channel.version ≡ version) }
+        ensures link { IfOk result (λ channel. IsSome channel.link) }
         ensures greeted { IfOk result (λ channel. GreetedWell L.source L.sink version
             (option_copied login.entry) link channel.link channel.node) }
         ensures err { IfErr result (λ e. GreetedInVain version (option_copied login.entry)
@@ -84,7 +86,8 @@ impl<L: Link> Channel<L> {
         node: Option<NodeId>,
     ) -> Result<Channel<L>, NotStarted<L>>
         ensures stands { IfOk result (λ channel. ChannelStands L.source L.sink channel.pending channel.link
-            (start_of version L.source L.sink channel.link) []) }
+            (start_of channel.version L.source L.sink channel.link) []) }
+        ensures version { IfOk result (λ channel. channel.version ≡ version) }
         ensures same { IfOk result (λ channel. (channel.link ≡ Some link) × (channel.node ≡ node)) }
         ensures err { IfErr result (λ e. (e.cause ≡ NoMemory)
             × Shows (L.source link) (L.sink link) (L.Left.shows e.retired)) }
@@ -123,16 +126,20 @@ impl<L: Link> Channel<L> {
     /// from then on. [`ChannelFault::NoMemory`] if memory runs out.
     pub fn submit(&mut self, ask: &Request) -> Result<i64, ChannelFault>
         requires { IsSubmittable ask.now }
-        ensures { Gains (ChannelStands L.source L.sink self.old.pending self.old.link)
+        ensures pairs { Gains (ChannelStands L.source L.sink self.old.pending self.old.link)
             (ChannelStands L.source L.sink self.new.pending self.new.link) (submit_pair (asks.Submit ask.now) (got.NotSent ask.now) result) }
+        ensures same { (self.new.version ≡ self.old.version) × (self.new.node ≡ self.old.node) }
+        ensures link { IsSome self.old.link → IsSome self.new.link }
     {
         submit_over(self.alloc, &mut self.pending, &mut self.link, ask)
     }
 
     /// Submits a request for the partition maps of caches, as `submit` does a request.
     pub fn submit_parts(&mut self, caches: &Items<i32>) -> Result<i64, ChannelFault>
-        ensures { Gains (ChannelStands L.source L.sink self.old.pending self.old.link)
+        ensures pairs { Gains (ChannelStands L.source L.sink self.old.pending self.old.link)
             (ChannelStands L.source L.sink self.new.pending self.new.link) (submit_pair (asks.SubmitParts caches.now) (got.NotSentParts caches.now) result) }
+        ensures same { (self.new.version ≡ self.old.version) × (self.new.node ≡ self.old.node) }
+        ensures link { IsSome self.old.link → IsSome self.new.link }
     {
         submit_parts_over(self.alloc, &mut self.pending, &mut self.link, caches)
     }
@@ -147,8 +154,10 @@ impl<L: Link> Channel<L> {
     /// isn't pending: then the channel is down from then on. [`ChannelFault::NoMemory`] if memory runs
     /// out; nothing was read then.
     pub fn pump(&mut self) -> Result<Octets, ChannelFault>
-        ensures { Gains (ChannelStands L.source L.sink self.old.pending self.old.link)
+        ensures pairs { Gains (ChannelStands L.source L.sink self.old.pending self.old.link)
             (ChannelStands L.source L.sink self.new.pending self.new.link) (pump_pair result) }
+        ensures same { (self.new.version ≡ self.old.version) × (self.new.node ≡ self.old.node) }
+        ensures link { IsSome self.old.link → IsSome self.new.link }
     {
         let mut piece = next_piece(self.alloc, &mut self.pending)?;
         if piece.is_empty() {
@@ -164,8 +173,10 @@ impl<L: Link> Channel<L> {
     /// The frame of the reply to the call with this identifier, its length included, if it came and
     /// wasn't taken; it is forgotten then. Takes no memory. Works on a channel that is down.
     pub fn take(&mut self, id: i64) -> Option<Octets>
-        ensures { Gains (ChannelStands L.source L.sink self.old.pending self.old.link)
+        ensures pairs { Gains (ChannelStands L.source L.sink self.old.pending self.old.link)
             (ChannelStands L.source L.sink self.new.pending self.new.link) (Some (asks.Take id, got.Taken result)) }
+        ensures same { (self.new.version ≡ self.old.version) × (self.new.node ≡ self.old.node) }
+        ensures link { IsSome self.old.link → IsSome self.new.link }
     {
         self.pending.take(id)
     }

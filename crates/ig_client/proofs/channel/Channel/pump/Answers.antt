@@ -10,27 +10,27 @@ use Rattle.ig_client.specs.declared.fault.ChannelFault.TheVariants.{Down}
 use Rattle.ig_client.proofs.PumpLemmas.{stands_unread, stands_empty, stands_linkless, stands_read, read_into, handed_on}
 use Rattle.ig_client.proofs.channel.Channel.pump.Goals as goal
 
-pub returns-in_err-piece : goal.returns-in_err-piece
-returns-in_err-piece g c =
+pub returns-in_err-piece-clause-pairs : goal.returns-in_err-piece-clause-pairs
+returns-in_err-piece-clause-pairs g c =
     subst (λ (r : Result (List ℕ) ChannelFault). Gains (ChannelStands g.L.Source.source g.L.Sink.sink c.args.self.now.pending c.args.self.now.link) (ChannelStands g.L.Source.source g.L.Sink.sink c.next_piece.new.pending c.args.self.now.link) (pump_pair r))
     (sym (handed_on c.from_residual.result c.in_err-piece.field-0.0 c.from_residual.ensures.0 c.from_residual.ensures.1))
     (stands_unread g.L.Source.source g.L.Sink.sink c.args.self.now.pending c.next_piece.new.pending c.args.self.now.link c.in_err-piece.field-0.0 c.in_err-piece.ensures.err)
 
-pub returns-then-is_empty : goal.returns-then-is_empty
-returns-then-is_empty g c =
+pub returns-then-is_empty-clause-pairs : goal.returns-then-is_empty-clause-pairs
+returns-then-is_empty-clause-pairs g c =
     let none : length c.in_ok-piece.piece.items ≡ 0 = omega (arith, c.in_ok-piece.piece.ok.0, eqb-true _ _ (sym c.if-is_empty.ensures)) in
     subst (λ (l : List ℕ). Gains (ChannelStands g.L.Source.source g.L.Sink.sink c.args.self.now.pending c.args.self.now.link) (ChannelStands g.L.Source.source g.L.Sink.sink c.next_piece.new.pending c.args.self.now.link) (pump_pair (Ok l)))
     (sym c.new.ensures)
     (stands_empty g.L.Source.source g.L.Sink.sink c.args.self.now.pending c.next_piece.new.pending c.args.self.now.link c.in_ok-piece.piece.items c.in_ok-piece.ensures.ok none)
 
-pub returns-in_default : goal.returns-in_default
-returns-in_default g c =
+pub returns-in_default-clause-pairs : goal.returns-in_default-clause-pairs
+returns-in_default-clause-pairs g c =
     subst (λ o. Gains (ChannelStands g.L.Source.source g.L.Sink.sink c.args.self.now.pending o) (ChannelStands g.L.Source.source g.L.Sink.sink c.next_piece.new.pending o) (pump_pair (Err (Down Closed))))
     (sym c.in_default.is)
     (stands_linkless g.L.Source.source g.L.Sink.sink c.args.self.now.pending c.next_piece.new.pending c.in_ok-piece.piece.items (Err (Down Closed)) c.in_ok-piece.ensures.ok refl)
 
-pub returns : goal.returns
-returns g c =
+pub returns-clause-pairs : goal.returns-clause-pairs
+returns-clause-pairs g c =
     let piece : List ℕ = c.in_ok-piece.piece.items in
     let buf : List ℕ = c.read_now-answer.new.buf in
     let old : PendingState = c.args.self.now.pending in

@@ -7,8 +7,8 @@ use Rattle.ig_client.specs.declared.ask.ChannelGot.TheVariants as got
 use Rattle.ig_client.proofs.StandLemmas.{stands_take}
 use Rattle.ig_client.proofs.channel.Channel.take.Goals as goal
 
-pub returns : goal.returns
-returns g c =
+pub returns-clause-pairs : goal.returns-clause-pairs
+returns-clause-pairs g c =
     let key : to_z w64 (of_z w64 c.args.id) ≡ c.args.id = to_z-of_z w64 c.args.id c.ranges.id in
     subst (λ (n : PendingState). Gains (ChannelStands g.L.Source.source g.L.Sink.sink c.args.self.now.pending c.args.self.now.link) (ChannelStands g.L.Source.source g.L.Sink.sink n c.args.self.now.link) (Some (ask.Take c.args.id, got.Taken c.take.result)))
     (sym (c.take.ensures.new ∙ ap (λ i. after_take i c.args.self.now.pending) key))
