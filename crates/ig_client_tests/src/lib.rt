@@ -2,4 +2,12 @@
 #![tactic(auto)]
 
 #[cfg(test)]
-mod tests;
+mod channel_tests;
+#[cfg(test)]
+mod fault_tests;
+#[cfg(test)]
+mod handshake_tests;
+#[cfg(test)]
+mod links;
+#[cfg(test)]
+mod turn_tests;
