@@ -189,12 +189,7 @@ fn write(session: &mut Session, output: &mut Octets) -> Result<u32, NoMemory>
 }
 
 /// Runs the only call that is out, or has no memory for it, and gives the answer to the session.
-fn run(
-    session: &mut Session,
-    caches: &mut Caches,
-    call: Call,
-    lacks: bool,
-) -> Result<(), NoMemory>
+fn run(session: &mut Session, caches: &mut Caches, call: Call, lacks: bool) -> Result<(), NoMemory>
     requires { length session.old.out ≡ 1 }
     ensures { IfOk result (λ done. session.new.out ≡ []) }
 {
@@ -363,7 +358,12 @@ fn answer_scan(
     if !answers(session, b'w')? {
         return Ok(false);
     }
-    answer(session, 2, Outcome::Pairs(Items::new(Vec::new(alloc))), output)?;
+    answer(
+        session,
+        2,
+        Outcome::Pairs(Items::new(Vec::new(alloc))),
+        output,
+    )?;
     answers(session, b'm')
 }
 
