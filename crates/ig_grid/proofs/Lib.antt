@@ -1,0 +1,12 @@
+pub mod SideBySideLemmas
+pub mod GridLemmas
+pub mod SeatLemmas
+pub mod TraceLemmas
+pub mod WorkLemmas
+pub mod CrossLemmas
+pub mod DeskLemmas
+pub mod HistoryLemmas
+pub mod CountLemmas
+pub mod NamedLemmas
+pub mod LastLemmas
+pub mod NodesLemmas

@@ -1,0 +1,10 @@
+pub mod Grids
+pub mod SeatCallers
+pub mod Named
+pub mod GridCfgs
+pub mod Traces
+pub mod Workers
+pub mod Serveds
+pub mod Desks
+pub mod ServeFaults
+pub mod Each
