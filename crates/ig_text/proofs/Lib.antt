@@ -5,3 +5,4 @@ pub mod TokenLemmas
 pub mod RefusalLemmas
 pub mod ObjectTextLemmas
 pub mod LevelLemmas
+pub mod LoopLemmas

@@ -74,12 +74,12 @@ stamp_text x = scalar_text i64 x.millis ++ colon ∷ scalar_text i32 x.nanos
 abbrev pub decimal_text : Dec → List ℕ
 decimal_text x = scalar_text i32 x.scale ++ colon ∷ hex true x.bytes
 
--- the 16 bytes of a UUID in lower case, with hyphens after 4, 6, 8 and 10 of them
+-- the bytes of a UUID's halves in lower case, with hyphens after 4, 6, 8 and 10 of them
+abbrev pub groups_text : List ℕ → List ℕ → List ℕ
+groups_text most least = hex false (take 4 most) ++ minus ∷ (hex false (take 2 (drop 4 most)) ++ minus ∷ (hex false (drop 6 most) ++ minus ∷ (hex false (take 2 least) ++ minus ∷ hex false (drop 2 least))))
+
 abbrev pub uuid_text : NodeId → List ℕ
-uuid_text x =
-    let most = to_be_bytes w64 x.most in
-    let least = to_be_bytes w64 x.least in
-    hex false (take 4 most) ++ minus ∷ (hex false (take 2 (drop 4 most)) ++ minus ∷ (hex false (drop 6 most) ++ minus ∷ (hex false (take 2 least) ++ minus ∷ hex false (drop 2 least))))
+uuid_text x = groups_text (to_be_bytes w64 x.most) (to_be_bytes w64 x.least)
 
 -- ---- items, and the byte that closes them
 

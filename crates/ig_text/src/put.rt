@@ -1,6 +1,6 @@
 //! Writing the texts of the parts that hold no value.
 
-ghost use Rattle.std.specs.Prelude.{◌≡◌, ◌++◌, ◌∷◌, ◌<◌, List, ℕ, codes, OnOk, IsTrue};
+ghost use Rattle.std.specs.Prelude.{◌≡◌, ◌++◌, ◌∷◌, ◌<◌, List, ℕ, [], length, true, OnOk};
 ghost use Rattle.std.specs.Fmt.{digit_glyph, decimal as decimal_digits};
 ghost use Rattle.ig_value.specs.Part as scalar;
 ghost use Rattle.ig_text.specs.Tokens as tokens;
@@ -107,17 +107,7 @@ impl PutText for NodeId {
     ghost text = { tokens.uuid_text };
 
     fn put(&self, out: &mut Octets) -> Result<(), NoMemory> {
-        let most = self.most.to_be_bytes();
-        let least = self.least.to_be_bytes();
-        put_hex(false, &most[..4], out)?;
-        out.push(b'-')?;
-        put_hex(false, &most[4..6], out)?;
-        out.push(b'-')?;
-        put_hex(false, &most[6..], out)?;
-        out.push(b'-')?;
-        put_hex(false, &least[..2], out)?;
-        out.push(b'-')?;
-        put_hex(false, &least[2..], out)
+        put_uuid(&self.most.to_be_bytes(), &self.least.to_be_bytes(), out)
     }
 }
 
@@ -150,6 +140,27 @@ impl<T: PutText> PutText for Option<T> {
             Some(part) => part.put(out),
         }
     }
+}
+
+/// Appends the bytes of a UUID's halves, with hyphens between their groups.
+fn put_uuid(most: &[u8], least: &[u8], out: &mut Octets) -> Result<(), NoMemory>
+    requires most { length most.now ≡ 8 }
+    requires least { length least.now ≡ 8 }
+    ensures { OnOk result (out.new ≡ out.old ++ tokens.groups_text most.now least.now) }
+{
+    put_group(&most[..4], out)?;
+    put_group(&most[4..6], out)?;
+    put_group(&most[6..], out)?;
+    put_group(&least[..2], out)?;
+    put_hex(false, &least[2..], out)
+}
+
+/// Appends bytes in hex, and a hyphen.
+fn put_group(bytes: &[u8], out: &mut Octets) -> Result<(), NoMemory>
+    ensures { OnOk result (out.new ≡ out.old ++ (tokens.hex false bytes.now ++ tokens.minus ∷ [])) }
+{
+    put_hex(false, bytes, out)?;
+    out.push(b'-')
 }
 
 /// Appends bytes in hex.

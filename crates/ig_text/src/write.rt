@@ -1,6 +1,6 @@
 //! Writing the text of a value.
 
-ghost use Rattle.std.specs.Prelude.{◌≡◌, ◌++◌, ◌∷◌, List, ℤ, OnOk, OnErr};
+ghost use Rattle.std.specs.Prelude.{◌≡◌, ◌++◌, ◌∷◌, [], OnOk, OnErr};
 ghost use Rattle.ig_text.specs.Tokens.{open_bracket, close_bracket, close_brace, items_text};
 ghost use Rattle.ig_text.specs.TextOf.{TextOf, entries, entry_text, head_text, object_text};
 ghost use Rattle.ig_text.specs.Words.{word as word_text, object_row};
@@ -209,15 +209,26 @@ fn put_entries(ids: &[i32], fields: &[Value], out: &mut Octets) -> Result<(), No
     ensures { OnOk result (out.new ≡ out.old
         ++ items_text close_brace (entry_text TextOf) (entries ids.now fields.now)) }
 {
-    let mut is_first = true;
-    for (id, field) in ids.iter().zip(fields) {
-        if !is_first {
-            out.push(b',')?;
-        }
-        is_first = false;
-        id.put(out)?;
-        out.push(b'=')?;
-        put_value(field, out)?;
+    let Some((id, more_ids)) = ids.split_first() else {
+        return out.push(b'}');
+    };
+    let Some((field, more_fields)) = fields.split_first() else {
+        return out.push(b'}');
+    };
+    put_entry(id, field, out)?;
+    for (id, field) in more_ids.iter().zip(more_fields) {
+        out.push(b',')?;
+        put_entry(id, field, out)?;
     }
     out.push(b'}')
+}
+
+/// Appends a field after its identifier.
+#[cycle(put)]
+fn put_entry(id: &i32, field: &Value, out: &mut Octets) -> Result<(), NoMemory>
+    ensures { OnOk result (out.new ≡ out.old ++ entry_text TextOf (id.now, field.now)) }
+{
+    id.put(out)?;
+    out.push(b'=')?;
+    put_value(field, out)
 }
