@@ -42,3 +42,10 @@ after_byte now pushed next text b push step = step ∙ ap (λ (l : List ℕ). l 
 
 pub find_step : {A : Type 0} (test : A → Bool) (xs : List A) (i : ℕ) (x : A) → i < length xs → x ≡ get_or xs i x → find test (drop i xs) ≡ cond (test x) (Some x) (find test (drop (i + 1) xs))
 find_step test xs i x lt item = ap (find test) (drop_item xs i x lt item)
+
+-- ---- a word, a part and the bracket, and then the items
+
+pub opened : (old mid next front part items : List ℕ) → mid ≡ old ++ (front ++ (part ++ 91 ∷ [])) → next ≡ mid ++ items → next ≡ old ++ (front ++ (part ++ 91 ∷ items))
+opened old mid next front part items first step =
+    step ∙ ap (λ (l : List ℕ). l ++ items) first ∙ append_assoc old (front ++ (part ++ 91 ∷ [])) items
+    ∙ ap (λ (l : List ℕ). old ++ l) (append_assoc front (part ++ 91 ∷ []) items ∙ ap (λ (l : List ℕ). front ++ l) (append_assoc part (91 ∷ []) items))

@@ -17,6 +17,10 @@ abbrev pub ReaderAnswers : {X Y : Type 0} → (X → Y × List ℕ) → Result X
 ReaderAnswers view (Ok x) read = read ≡ Ok (view x)
 ReaderAnswers view (Err e) read = Fails e read
 
+-- the closure's results are those of `build`
+abbrev pub Makes : {A B : Type 0} → (A → B → Type 0) → (A → B) → Type 0
+Makes {A} {B} post build = (x : A) (y : B) → post x y → y ≡ build x
+
 -- where a whole text is to be read: the place of the first wrong part, or of what follows the value
 abbrev pub IsRefusal : List ℕ → ℕ → Read Value → Type 0
 IsRefusal s place (Ok (v, rest)) = (place + length rest ≡ length s) × (rest ≡ [] → ⊥)

@@ -1,6 +1,6 @@
 //! Reading marks, numbers and hex from the front of a text.
 
-ghost use Rattle.std.specs.Prelude.{◌≡◌, ◌+◌, ◌<◌, ◌≤◌, ◌^◌, true, length, IfOk};
+ghost use Rattle.std.specs.Prelude.{◌≡◌, ◌+◌, ◌<◌, ◌≤◌, ◌^◌, true, false, length, IfSome, IsNone};
 ghost use Rattle.std.specs.Char.{is_ascii_digit};
 ghost use Rattle.std.specs.List.{prefix_len};
 ghost use Rattle.ig_text.specs.ReadText as reading;
@@ -56,7 +56,7 @@ pub(crate) fn natural(text: &[u8]) -> Result<(u64, &[u8]), ReadError>
     Ok((number, rest))
 }
 
-/// A signed number from minus the limit on and below the limit, and the bytes after it.
+/// A signed number, from minus the limit on and below the limit, and the bytes after it.
 pub(crate) fn signed(limit: u64, text: &[u8]) -> Result<(i64, &[u8]), ReadError>
     requires { limit ≤ 2 ^ 63 }
     ensures { ReaderAnswers (λ x. (x.0, x.1.now)) result (reading.signed_at limit text.now) }
@@ -66,7 +66,10 @@ pub(crate) fn signed(limit: u64, text: &[u8]) -> Result<(i64, &[u8]), ReadError>
         None => Err(ReadError::Bad { left }),
         Some((b'-', after)) => {
             let (number, rest) = natural(after)?;
-            if number == 0 || number > limit {
+            if number == 0 {
+                return Err(ReadError::Bad { left });
+            }
+            if number > limit {
                 return Err(ReadError::Bad { left });
             }
             Ok((-1 - (number - 1) as i64, rest))
@@ -82,7 +85,12 @@ pub(crate) fn signed(limit: u64, text: &[u8]) -> Result<(i64, &[u8]), ReadError>
 }
 
 /// The value of a hex digit. Letters are upper case or lower case, never both.
-fn hex_value(upper: bool, byte: u8) -> Option<u8> {
+fn hex_value(upper: bool, byte: u8) -> Option<u8>
+    ensures some { IfSome result (λ x. (reading.is_hex upper byte ≡ true)
+        × (x ≡ reading.hex_value upper byte)) }
+    ensures small { IfSome result (λ x. x < 16) }
+    ensures none { IsNone result → reading.is_hex upper byte ≡ false }
+{
     let letter = if upper { b'A' } else { b'a' };
     if byte.is_ascii_digit() {
         return Some(byte - b'0');

@@ -1,8 +1,13 @@
 //! Reading a value from its text.
 
-ghost use Rattle.std.specs.Prelude.{◌≡◌, ◌≤◌, length, MatchResult};
+ghost use Rattle.std.specs.Prelude.{List, map as mapped, Ok as Read_ok};
+ghost use Rattle.ig_value.specs.Part as scalar;
+ghost use Rattle.ig_value.specs.declared.code.Code.TheVariants as kinds;
+ghost use Rattle.ig_value.specs.declared.value.Value.{Value as a_value};
+ghost use Rattle.ig_text.specs.declared.row.Row.TheVariants.{Kind, CompactObject};
 ghost use Rattle.ig_text.specs.ReadText as reading;
-ghost use Rattle.ig_text.specs.ReaderAnswers.{ReaderAnswers, IsValueResult};
+ghost use Rattle.ig_text.specs.ReaderAnswers.{ReaderAnswers, Makes, IsValueResult};
+ghost use Rattle.ig_text.specs.Tokens.{colon, equals, close_bracket, close_brace};
 
 use crate::fault::{ReadError, TextFault};
 use crate::parts::{LONGEST, ReadPart, bits, items, type_id};
@@ -58,7 +63,15 @@ fn value(alloc: Global, levels: u32, text: &[u8]) -> Result<(Value, &[u8]), Read
 /// The content after the word of a kind, and the bytes after it. A value inside is at most `levels`
 /// deep.
 #[cycle(value)]
-fn content(alloc: Global, levels: u32, code: Code, text: &[u8]) -> Result<(Value, &[u8]), ReadError> {
+fn content(
+    alloc: Global,
+    levels: u32,
+    code: Code,
+    text: &[u8],
+) -> Result<(Value, &[u8]), ReadError>
+    ensures { ReaderAnswers (λ x. (x.0, x.1.now)) result
+        (reading.content_at (reading.value_at levels) (Kind code) text.now) }
+{
     match code {
         Code::Byte => one(alloc, text, Value::Byte),
         Code::Short => one(alloc, text, Value::Short),
@@ -113,6 +126,9 @@ fn one<T: ReadPart, F: FnOnce(T) -> Value>(
     make: F,
 ) -> Result<(Value, &[u8]), ReadError>
     requires { F.IsAlwaysCallable make }
+    ensures { (build : T → a_value) → Makes (F.post make) build
+        → ReaderAnswers (λ x. (x.0, x.1.now)) result
+        (reading.mapped_read build (T.reads text.now)) }
 {
     let (part, rest) = T::read(alloc, text)?;
     Ok((make(part), rest))
@@ -125,13 +141,20 @@ fn list<T: ReadPart, F: FnOnce(Items<T>) -> Value>(
     make: F,
 ) -> Result<(Value, &[u8]), ReadError>
     requires { F.IsAlwaysCallable make }
+    ensures { (build : List T → a_value) → Makes (F.post make) build
+        → ReaderAnswers (λ x. (x.0, x.1.now)) result
+        (reading.mapped_read build (reading.items_at T.reads close_bracket text.now)) }
 {
     let (parts, rest) = items(alloc, text)?;
     Ok((make(parts), rest))
 }
 
 /// Two numbers with a colon between them, and the bytes after them.
-fn two_numbers(alloc: Global, text: &[u8]) -> Result<(i32, i32, &[u8]), ReadError> {
+fn two_numbers(alloc: Global, text: &[u8]) -> Result<(i32, i32, &[u8]), ReadError>
+    ensures { ReaderAnswers (λ x. ((x.0, x.1), x.2.now)) result
+        (reading.joined_at (reading.scalar_at scalar.i32) colon
+        (reading.scalar_at scalar.i32) text.now) }
+{
     let (first, rest) = i32::read(alloc, text)?;
     let (_, rest) = mark(b':', rest)?;
     let (second, rest) = i32::read(alloc, rest)?;
@@ -139,7 +162,10 @@ fn two_numbers(alloc: Global, text: &[u8]) -> Result<(i32, i32, &[u8]), ReadErro
 }
 
 /// An object wrapped in bytes.
-fn wrapped(alloc: Global, text: &[u8]) -> Result<(Value, &[u8]), ReadError> {
+fn wrapped(alloc: Global, text: &[u8]) -> Result<(Value, &[u8]), ReadError>
+    ensures { ReaderAnswers (λ x. (x.0, x.1.now)) result
+        (reading.content_at (reading.value_at 0) (Kind kinds.Wrapped) text.now) }
+{
     let (offset, rest) = i32::read(alloc, text)?;
     let (_, rest) = mark(b':', rest)?;
     let (bytes, rest) = Octets::read(alloc, rest)?;
@@ -148,7 +174,10 @@ fn wrapped(alloc: Global, text: &[u8]) -> Result<(Value, &[u8]), ReadError> {
 
 /// An array of objects.
 #[cycle(value)]
-fn objects(alloc: Global, levels: u32, text: &[u8]) -> Result<(Value, &[u8]), ReadError> {
+fn objects(alloc: Global, levels: u32, text: &[u8]) -> Result<(Value, &[u8]), ReadError>
+    ensures { ReaderAnswers (λ x. (x.0, x.1.now)) result
+        (reading.content_at (reading.value_at levels) (Kind kinds.Objects) text.now) }
+{
     let (type_id, rest) = i32::read(alloc, text)?;
     let (_, rest) = mark(b'[', rest)?;
     let (items, rest) = values(alloc, levels, b']', rest)?;
@@ -157,7 +186,10 @@ fn objects(alloc: Global, levels: u32, text: &[u8]) -> Result<(Value, &[u8]), Re
 
 /// An array of enums.
 #[cycle(value)]
-fn enums(alloc: Global, levels: u32, text: &[u8]) -> Result<(Value, &[u8]), ReadError> {
+fn enums(alloc: Global, levels: u32, text: &[u8]) -> Result<(Value, &[u8]), ReadError>
+    ensures { ReaderAnswers (λ x. (x.0, x.1.now)) result
+        (reading.content_at (reading.value_at levels) (Kind kinds.Enums) text.now) }
+{
     let (type_id, rest) = i32::read(alloc, text)?;
     let (_, rest) = mark(b'[', rest)?;
     let (items, rest) = values(alloc, levels, b']', rest)?;
@@ -166,7 +198,10 @@ fn enums(alloc: Global, levels: u32, text: &[u8]) -> Result<(Value, &[u8]), Read
 
 /// A collection.
 #[cycle(value)]
-fn collection(alloc: Global, levels: u32, text: &[u8]) -> Result<(Value, &[u8]), ReadError> {
+fn collection(alloc: Global, levels: u32, text: &[u8]) -> Result<(Value, &[u8]), ReadError>
+    ensures { ReaderAnswers (λ x. (x.0, x.1.now)) result
+        (reading.content_at (reading.value_at levels) (Kind kinds.Collection) text.now) }
+{
     let (kind, rest) = i8::read(alloc, text)?;
     let (_, rest) = mark(b'[', rest)?;
     let (items, rest) = values(alloc, levels, b']', rest)?;
@@ -175,7 +210,10 @@ fn collection(alloc: Global, levels: u32, text: &[u8]) -> Result<(Value, &[u8]),
 
 /// A map.
 #[cycle(value)]
-fn map(alloc: Global, levels: u32, text: &[u8]) -> Result<(Value, &[u8]), ReadError> {
+fn map(alloc: Global, levels: u32, text: &[u8]) -> Result<(Value, &[u8]), ReadError>
+    ensures { ReaderAnswers (λ x. (x.0, x.1.now)) result
+        (reading.content_at (reading.value_at levels) (Kind kinds.Map) text.now) }
+{
     let (kind, rest) = i8::read(alloc, text)?;
     let (_, rest) = mark(b'[', rest)?;
     let (pairs, rest) = pairs(alloc, levels, rest)?;
@@ -212,7 +250,14 @@ fn values(
 }
 
 /// The list, if an Int32 counts it.
-fn counted<T: Drop>(read: Vec<T>, left: usize, rest: &[u8]) -> Result<(Items<T>, &[u8]), ReadError> {
+fn counted<T: Drop>(
+    read: Vec<T>,
+    left: usize,
+    rest: &[u8],
+) -> Result<(Items<T>, &[u8]), ReadError>
+    ensures { ReaderAnswers (λ x. (x.0, x.1.now)) result
+        (reading.checked_read reading.is_countable left (Read_ok (read.items, rest.now))) }
+{
     if read.len() > LONGEST {
         return Err(ReadError::Bad { left });
     }
@@ -225,7 +270,11 @@ fn pairs(
     alloc: Global,
     levels: u32,
     text: &[u8],
-) -> Result<(Items<(Value, Value)>, &[u8]), ReadError> {
+) -> Result<(Items<(Value, Value)>, &[u8]), ReadError>
+    ensures { ReaderAnswers (λ x. (x.0, x.1.now)) result
+        (reading.items_at (reading.joined_at (reading.value_at levels) equals
+        (reading.value_at levels)) close_bracket text.now) }
+{
     let mut read = Vec::new(alloc);
     if let Some((b']', rest)) = text.split_first() {
         return Ok((Items::new(read), rest));
@@ -246,7 +295,14 @@ fn pairs(
 
 /// Two values with an equals sign between them, and the bytes after them.
 #[cycle(value)]
-fn value_pair(alloc: Global, levels: u32, text: &[u8]) -> Result<((Value, Value), &[u8]), ReadError> {
+fn value_pair(
+    alloc: Global,
+    levels: u32,
+    text: &[u8],
+) -> Result<((Value, Value), &[u8]), ReadError>
+    ensures { ReaderAnswers (λ x. (x.0, x.1.now)) result
+        (reading.joined_at (reading.value_at levels) equals (reading.value_at levels) text.now) }
+{
     let (first, rest) = value(alloc, levels, text)?;
     let (_, rest) = mark(b'=', rest)?;
     let (second, rest) = value(alloc, levels, rest)?;
@@ -254,7 +310,9 @@ fn value_pair(alloc: Global, levels: u32, text: &[u8]) -> Result<((Value, Value)
 }
 
 /// Flags and type of an object, and the bytes after them.
-fn head(text: &[u8]) -> Result<(u16, i32, &[u8]), ReadError> {
+fn head(text: &[u8]) -> Result<(u16, i32, &[u8]), ReadError>
+    ensures { ReaderAnswers (λ x. ((x.0, x.1), x.2.now)) result (reading.head_at text.now) }
+{
     let (bits, rest) = bits(text)?;
     let (_, rest) = mark(b':', rest)?;
     let (type_id, rest) = type_id(rest)?;
@@ -263,7 +321,10 @@ fn head(text: &[u8]) -> Result<(u16, i32, &[u8]), ReadError> {
 
 /// An object whose fields have identifiers.
 #[cycle(value)]
-fn named(alloc: Global, levels: u32, text: &[u8]) -> Result<(Value, &[u8]), ReadError> {
+fn named(alloc: Global, levels: u32, text: &[u8]) -> Result<(Value, &[u8]), ReadError>
+    ensures { ReaderAnswers (λ x. (x.0, x.1.now)) result
+        (reading.content_at (reading.value_at levels) (Kind kinds.Object) text.now) }
+{
     let (bits, type_id, rest) = head(text)?;
     let (_, rest) = mark(b'{', rest)?;
     let (ids, fields, rest) = entries(alloc, levels, rest)?;
@@ -282,7 +343,11 @@ fn entries(
     alloc: Global,
     levels: u32,
     text: &[u8],
-) -> Result<(Items<i32>, Items<Value>, &[u8]), ReadError> {
+) -> Result<(Items<i32>, Items<Value>, &[u8]), ReadError>
+    ensures { ReaderAnswers (λ x. ((x.0, x.1), x.2.now)) result
+        (reading.mapped_read (λ es. (mapped (λ e. e.0) es, mapped (λ e. e.1) es))
+        (reading.items_at (reading.entry_at (reading.value_at levels)) close_brace text.now)) }
+{
     let (mut ids, mut fields) = (Vec::new(alloc), Vec::new(alloc));
     if let Some((b'}', rest)) = text.split_first() {
         return Ok((Items::new(ids), Items::new(fields), rest));
@@ -308,7 +373,10 @@ fn entries(
 
 /// An identifier and the field after it, and the bytes after them.
 #[cycle(value)]
-fn entry(alloc: Global, levels: u32, text: &[u8]) -> Result<(i32, Value, &[u8]), ReadError> {
+fn entry(alloc: Global, levels: u32, text: &[u8]) -> Result<(i32, Value, &[u8]), ReadError>
+    ensures { ReaderAnswers (λ x. ((x.0, x.1), x.2.now)) result
+        (reading.entry_at (reading.value_at levels) text.now) }
+{
     let (id, rest) = i32::read(alloc, text)?;
     let (_, rest) = mark(b'=', rest)?;
     let (field, rest) = value(alloc, levels, rest)?;
@@ -317,7 +385,10 @@ fn entry(alloc: Global, levels: u32, text: &[u8]) -> Result<(i32, Value, &[u8]),
 
 /// An object whose fields are those of a schema.
 #[cycle(value)]
-fn compact(alloc: Global, levels: u32, text: &[u8]) -> Result<(Value, &[u8]), ReadError> {
+fn compact(alloc: Global, levels: u32, text: &[u8]) -> Result<(Value, &[u8]), ReadError>
+    ensures { ReaderAnswers (λ x. (x.0, x.1.now)) result
+        (reading.content_at (reading.value_at levels) CompactObject text.now) }
+{
     let (bits, type_id, rest) = head(text)?;
     let (_, rest) = mark(b':', rest)?;
     let (schema, rest) = i32::read(alloc, rest)?;
