@@ -6,3 +6,4 @@ pub mod RefusalLemmas
 pub mod ObjectTextLemmas
 pub mod LevelLemmas
 pub mod LoopLemmas
+pub mod WholeLemmas

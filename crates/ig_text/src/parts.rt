@@ -1,6 +1,6 @@
 //! Reading the parts that hold no value.
 
-ghost use Rattle.std.specs.Prelude.{◌≡◌, List, ℕ};
+ghost use Rattle.std.specs.Prelude.{List, ℕ, length, Ok as Read_ok};
 ghost use Rattle.ig_value.specs.Part as scalar;
 ghost use Rattle.ig_text.specs.Tokens.{close_bracket};
 ghost use Rattle.ig_text.specs.ReadText as reading;
@@ -8,7 +8,7 @@ ghost use Rattle.ig_text.specs.ReaderAnswers.{ReaderAnswers};
 
 use crate::fault::ReadError;
 use crate::put::is_bare;
-use crate::read::{fill, hex_len, mark, natural, pair, signed};
+use crate::read::{after, fill, hex_len, mark, natural, pair, signed};
 use ig_base::{Items, NodeId, Octets, Text};
 use ig_value::{Dec, Stamp, kept_flags};
 use std::alloc::Global;
@@ -152,12 +152,12 @@ fn until_quote(alloc: Global, text: &[u8]) -> Result<(Vec<u8>, &[u8]), ReadError
     let mut bytes = Vec::new(alloc);
     let mut rest = text;
     for _ in 0..text.len() {
-        if let Some((b'"', after)) = rest.split_first() {
-            return Ok((bytes, after));
+        if let Some(behind) = after(b'"', rest) {
+            return Ok((bytes, behind));
         }
-        let (byte, after) = quoted_byte(rest)?;
+        let (byte, next) = quoted_byte(rest)?;
         bytes.push(byte)?;
-        rest = after;
+        rest = next;
     }
     Err(ReadError::Bad { left: rest.len() })
 }
@@ -247,24 +247,36 @@ pub(crate) fn items<T: ReadPart>(
         (reading.items_at T.reads close_bracket text.now) }
 {
     let mut read = Vec::new(alloc);
-    if let Some((b']', rest)) = text.split_first() {
+    if let Some(rest) = after(b']', text) {
         return Ok((Items::new(read), rest));
     }
     let (first, mut rest) = T::read(alloc, text)?;
     read.push(first)?;
     for _ in 0..rest.len() {
-        if let Some((b']', after)) = rest.split_first() {
-            if read.len() > LONGEST {
-                return Err(ReadError::Bad { left: text.len() });
-            }
-            return Ok((Items::new(read), after));
+        if let Some(behind) = after(b']', rest) {
+            return counted(read, text.len(), behind);
         }
-        let (_, after) = mark(b',', rest)?;
-        let (item, after) = T::read(alloc, after)?;
+        let (_, next) = mark(b',', rest)?;
+        let (item, next) = T::read(alloc, next)?;
         read.push(item)?;
-        rest = after;
+        rest = next;
     }
     Err(ReadError::Bad { left: rest.len() })
+}
+
+/// The list, if an Int32 counts it.
+pub(crate) fn counted<T: Drop>(
+    read: Vec<T>,
+    left: usize,
+    rest: &[u8],
+) -> Result<(Items<T>, &[u8]), ReadError>
+    ensures { ReaderAnswers (λ x. (x.0, x.1.now)) result
+        (reading.checked_read reading.is_countable left (Read_ok (read.items, rest.now))) }
+{
+    if read.len() > LONGEST {
+        return Err(ReadError::Bad { left });
+    }
+    Ok((Items::new(read), rest))
 }
 
 /// The flags of an object, and the bytes after them.

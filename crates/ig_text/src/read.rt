@@ -1,6 +1,6 @@
 //! Reading marks, numbers and hex from the front of a text.
 
-ghost use Rattle.std.specs.Prelude.{◌≡◌, ◌+◌, ◌<◌, ◌≤◌, ◌^◌, true, false, length, IfSome, IsNone};
+ghost use Rattle.std.specs.Prelude.{◌≡◌, ◌<◌, ◌≤◌, ◌^◌, ◌∷◌, List, ℕ, true, false, length, IfSome, IsNone};
 ghost use Rattle.std.specs.Char.{is_ascii_digit};
 ghost use Rattle.std.specs.List.{prefix_len};
 ghost use Rattle.ig_text.specs.ReadText as reading;
@@ -12,9 +12,20 @@ use crate::fault::ReadError;
 pub(crate) fn mark(byte: u8, text: &[u8]) -> Result<((), &[u8]), ReadError>
     ensures { ReaderAnswers (λ x. (tt, x.1.now)) result (reading.mark_at byte text.now) }
 {
+    match after(byte, text) {
+        Some(rest) => Ok(((), rest)),
+        None => Err(ReadError::Bad { left: text.len() }),
+    }
+}
+
+/// The bytes after this byte, if the text begins with it.
+pub(crate) fn after(byte: u8, text: &[u8]) -> Option<&[u8]>
+    ensures some { IfSome result (λ rest. text.now ≡ byte ∷ rest.now) }
+    ensures none { IsNone result → (rest : List ℕ) → text.now ≡ byte ∷ rest → ⊥ }
+{
     match text.split_first() {
-        Some((first, rest)) if *first == byte => Ok(((), rest)),
-        _ => Err(ReadError::Bad { left: text.len() }),
+        Some((first, rest)) if *first == byte => Some(rest),
+        _ => None,
     }
 }
 

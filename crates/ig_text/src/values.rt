@@ -1,17 +1,17 @@
 //! Reading a value from its text.
 
-ghost use Rattle.std.specs.Prelude.{List, map as mapped, Ok as Read_ok};
+ghost use Rattle.std.specs.Prelude.{List, ℤ, map as mapped};
 ghost use Rattle.ig_value.specs.Part as scalar;
 ghost use Rattle.ig_value.specs.declared.code.Code.TheVariants as kinds;
 ghost use Rattle.ig_value.specs.declared.value.Value.{Value as a_value};
 ghost use Rattle.ig_text.specs.declared.row.Row.TheVariants.{Kind, CompactObject};
 ghost use Rattle.ig_text.specs.ReadText as reading;
-ghost use Rattle.ig_text.specs.ReaderAnswers.{ReaderAnswers, Makes, IsValueResult};
+ghost use Rattle.ig_text.specs.ReaderAnswers.{ReaderAnswers, Makes, IsTextResult, IsValueResult};
 ghost use Rattle.ig_text.specs.Tokens.{colon, equals, close_bracket, close_brace};
 
 use crate::fault::{ReadError, TextFault};
-use crate::parts::{LONGEST, ReadPart, bits, items, type_id};
-use crate::read::mark;
+use crate::parts::{ReadPart, bits, counted, items, type_id};
+use crate::read::{after, mark};
 use crate::row::Row;
 use crate::words::{row_at, word};
 use ig_base::{Boxed, Items, Octets};
@@ -23,7 +23,8 @@ use std::alloc::Global;
 /// It fails where they aren't the text of a value that keeps to the limits, and tells the offset of
 /// the first part that is wrong; where only a part of them is a text, that is the offset after it.
 pub fn read_value(alloc: Global, text: &[u8]) -> Result<Value, TextFault>
-    ensures { IsValueResult text.now result }
+    ensures is_text { IsTextResult text.now result }
+    ensures place { IsValueResult text.now result }
 {
     match value(alloc, DEEPEST, text) {
         Ok((value, rest)) => {
@@ -232,36 +233,21 @@ fn values(
         (reading.items_at (reading.value_at levels) close text.now) }
 {
     let mut read = Vec::new(alloc);
-    if text.first() == Some(&close) {
-        return Ok((Items::new(read), &text[1..]));
+    if let Some(rest) = after(close, text) {
+        return Ok((Items::new(read), rest));
     }
     let (first, mut rest) = value(alloc, levels, text)?;
     read.push(first)?;
     for _ in 0..rest.len() {
-        if rest.first() == Some(&close) {
-            return counted(read, text.len(), &rest[1..]);
+        if let Some(behind) = after(close, rest) {
+            return counted(read, text.len(), behind);
         }
-        let (_, after) = mark(b',', rest)?;
-        let (item, after) = value(alloc, levels, after)?;
+        let (_, next) = mark(b',', rest)?;
+        let (item, next) = value(alloc, levels, next)?;
         read.push(item)?;
-        rest = after;
+        rest = next;
     }
     Err(ReadError::Bad { left: rest.len() })
-}
-
-/// The list, if an Int32 counts it.
-fn counted<T: Drop>(
-    read: Vec<T>,
-    left: usize,
-    rest: &[u8],
-) -> Result<(Items<T>, &[u8]), ReadError>
-    ensures { ReaderAnswers (λ x. (x.0, x.1.now)) result
-        (reading.checked_read reading.is_countable left (Read_ok (read.items, rest.now))) }
-{
-    if read.len() > LONGEST {
-        return Err(ReadError::Bad { left });
-    }
-    Ok((Items::new(read), rest))
 }
 
 /// Pairs of values up to the bracket that closes the list, and the bytes after it.
@@ -276,19 +262,19 @@ fn pairs(
         (reading.value_at levels)) close_bracket text.now) }
 {
     let mut read = Vec::new(alloc);
-    if let Some((b']', rest)) = text.split_first() {
+    if let Some(rest) = after(b']', text) {
         return Ok((Items::new(read), rest));
     }
     let (first, mut rest) = value_pair(alloc, levels, text)?;
     read.push(first)?;
     for _ in 0..rest.len() {
-        if let Some((b']', after)) = rest.split_first() {
-            return counted(read, text.len(), after);
+        if let Some(behind) = after(b']', rest) {
+            return counted(read, text.len(), behind);
         }
-        let (_, after) = mark(b',', rest)?;
-        let (item, after) = value_pair(alloc, levels, after)?;
+        let (_, next) = mark(b',', rest)?;
+        let (item, next) = value_pair(alloc, levels, next)?;
         read.push(item)?;
-        rest = after;
+        rest = next;
     }
     Err(ReadError::Bad { left: rest.len() })
 }
@@ -344,29 +330,27 @@ fn entries(
     levels: u32,
     text: &[u8],
 ) -> Result<(Items<i32>, Items<Value>, &[u8]), ReadError>
-    ensures { ReaderAnswers (λ x. ((x.0, x.1), x.2.now)) result
+    ensures { ReaderAnswers {Y = List ℤ × List a_value} (λ x. ((x.0, x.1), x.2.now)) result
         (reading.mapped_read (λ es. (mapped (λ e. e.0) es, mapped (λ e. e.1) es))
         (reading.items_at (reading.entry_at (reading.value_at levels)) close_brace text.now)) }
 {
     let (mut ids, mut fields) = (Vec::new(alloc), Vec::new(alloc));
-    if let Some((b'}', rest)) = text.split_first() {
+    if let Some(rest) = after(b'}', text) {
         return Ok((Items::new(ids), Items::new(fields), rest));
     }
     let (id, field, mut rest) = entry(alloc, levels, text)?;
     ids.push(id)?;
     fields.push(field)?;
     for _ in 0..rest.len() {
-        if let Some((b'}', after)) = rest.split_first() {
-            if fields.len() > LONGEST {
-                return Err(ReadError::Bad { left: text.len() });
-            }
-            return Ok((Items::new(ids), Items::new(fields), after));
+        if let Some(behind) = after(b'}', rest) {
+            let (fields, rest) = counted(fields, text.len(), behind)?;
+            return Ok((Items::new(ids), fields, rest));
         }
-        let (_, after) = mark(b',', rest)?;
-        let (id, field, after) = entry(alloc, levels, after)?;
+        let (_, next) = mark(b',', rest)?;
+        let (id, field, next) = entry(alloc, levels, next)?;
         ids.push(id)?;
         fields.push(field)?;
-        rest = after;
+        rest = next;
     }
     Err(ReadError::Bad { left: rest.len() })
 }
