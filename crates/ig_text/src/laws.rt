@@ -1,0 +1,11 @@
+//! Laws of the texts. These functions do nothing; their contracts say what holds of every input.
+
+ghost use Rattle.ig_text.specs.TextLaws.{ReadIsText, TextIsRead, TextTellsApart};
+
+/// What is read from a text keeps to the limits, and its text stood there. The text of a value within
+/// the limits is read, whatever follows that a number can't go on with. Two values have two texts.
+pub fn one_text()
+    ensures read { ReadIsText }
+    ensures again { TextIsRead }
+    ensures apart { TextTellsApart }
+{}

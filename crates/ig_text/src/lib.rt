@@ -1,0 +1,29 @@
+//! Values as text, and text as values.
+//!
+//! ```text
+//! Map { kind: 1, pairs: [(Int(1), Str("a b"))] }        map:1[int:1=str:"a\x20b"]
+//! ```
+//!
+//! Each value has one text, and reading accepts exactly the texts of values that keep to the limits.
+//! `TextOf` in `specs/TextOf.antt` is the text of a value, and `text_at` in `specs/ReadText.antt` reads
+//! one from a list of bytes. That they agree is the contract of [`one_text`].
+#![tactic(auto)]
+
+mod fault;
+mod laws;
+mod parts;
+mod put;
+mod read;
+mod row;
+mod values;
+mod words;
+mod write;
+
+pub use fault::TextFault;
+pub use laws::one_text;
+pub use row::Row;
+pub use values::read_value;
+pub use write::write_value;
+
+#[cfg(test)]
+mod tests;
