@@ -148,7 +148,7 @@ refit_reads Fits Other T R to from p = record {
 }
 
 -- a part that may stand in a list beside nulls
-abbrev IsLeaf : Part → Type 0
+abbrev pub IsLeaf : Part → Type 0
 IsLeaf (scalar k) = Unit {0}
 IsLeaf text = Unit {0}
 IsLeaf uuid = Unit {0}
@@ -157,14 +157,14 @@ IsLeaf decimal = Unit {0}
 IsLeaf _ = ⊥
 
 -- an item of a list
-abbrev IsListed : Part → Type 0
+abbrev pub IsListed : Part → Type 0
 IsListed (scalar k) = Unit {0}
 IsListed value = Unit {0}
 IsListed (both value q) = Unit {0}
 IsListed (optional c p) = IsLeaf p
 IsListed _ = ⊥
 
-abbrev IsTextual : Part → Type 0
+abbrev pub IsTextual : Part → Type 0
 IsTextual object = ⊥
 IsTextual (both octets q) = IsTextual q
 IsTextual (both p q) = IsTextual p × IsTextual q
@@ -245,7 +245,7 @@ part_reads {X} Fits T R inner (counted p q) is =
     (part_reads Fits T R inner p is.0) (listed_reads Fits T R inner q is.1.0 (part_reads Fits T R inner q is.1.1)))
 part_reads Fits T R inner (optional c p) is = optional_reads (FitsPart Fits p) (part_text T p) (part_at R p) (part_reads Fits T R inner p is.1) (leaf_begins R p is.0)
 
-content_textual : (c : Code) → IsPlain c → IsTextual (content c)
+pub content_textual : (c : Code) → IsPlain c → IsTextual (content c)
 content_textual code.Object plain = absurd plain
 content_textual code.Bytes plain = (tt, tt)
 content_textual code.Shorts plain = (tt, tt)

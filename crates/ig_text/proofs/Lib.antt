@@ -7,3 +7,4 @@ pub mod ObjectTextLemmas
 pub mod LevelLemmas
 pub mod LoopLemmas
 pub mod WholeLemmas
+pub mod BoundLemmas

@@ -1,6 +1,7 @@
 -- Laws of the texts of values.
-use Rattle.std.specs.Prelude.{◌≡◌, true, false, List, [], ◌∷◌, ◌++◌, ℕ, Ok}
+use Rattle.std.specs.Prelude.{◌≡◌, ◌≤◌, ◌*◌, true, false, List, [], ◌∷◌, ◌++◌, length, ℕ, Ok}
 use Rattle.ig_value.specs.declared.value.Value.{Value}
+use Rattle.ig_value.specs.Canon.{Canon}
 use Rattle.ig_value.specs.Limits.{Fits}
 use Rattle.ig_text.specs.ReadText.{is_hex, text_at}
 use Rattle.ig_text.specs.TextOf.{TextOf}
@@ -25,3 +26,7 @@ TextIsRead = (v : Value) (rest : List ℕ) → Fits v → Ends rest → text_at 
 -- two values within the limits have the same text only if they are equal
 abbrev pub TextTellsApart : Type 0
 TextTellsApart = (v w : Value) → Fits v → Fits w → TextOf v ≡ TextOf w → v ≡ w
+
+-- a value that was read from some bytes has a canonical form of at most 24 times as many
+abbrev pub ReadIsBounded : Type 0
+ReadIsBounded = (s rest : List ℕ) (v : Value) → text_at s ≡ Ok (v, rest) → length (Canon v) ≤ 24 * length s

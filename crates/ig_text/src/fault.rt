@@ -32,7 +32,7 @@ impl std::error::Error for TextFault {}
 
 /// Why a part could not be read.
 #[derive(Clone, Copy, Debug)]
-pub(crate) enum ReadError {
+pub enum ReadError {
     NoMemory,
     /// The first wrong part, by the number of bytes that are left where it begins.
     Bad {

@@ -19,8 +19,11 @@ mod values;
 mod words;
 mod write;
 
-pub use fault::TextFault;
+pub use fault::{ReadError, TextFault};
 pub use laws::one_text;
+pub use parts::{LONGEST, ReadPart, counted, items};
+pub use put::{PutText, put_items, put_quoted};
+pub use read::{after, mark, natural, signed};
 pub use row::Row;
 pub use values::read_value;
 pub use write::write_value;

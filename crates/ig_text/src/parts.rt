@@ -2,7 +2,6 @@
 
 ghost use Rattle.std.specs.Prelude.{List, ℕ, length, Ok as Read_ok};
 ghost use Rattle.ig_value.specs.Part as scalar;
-ghost use Rattle.ig_text.specs.Tokens.{close_bracket};
 ghost use Rattle.ig_text.specs.ReadText as reading;
 ghost use Rattle.ig_text.specs.ReaderAnswers.{ReaderAnswers};
 
@@ -14,10 +13,10 @@ use ig_value::{Dec, Stamp, kept_flags};
 use std::alloc::Global;
 
 /// The greatest length of a text or a list.
-pub(crate) const LONGEST: usize = 2_147_483_647;
+pub const LONGEST: usize = 2_147_483_647;
 
 /// A part that is read from the front of a text.
-pub(crate) trait ReadPart: Drop + Sized {
+pub trait ReadPart: Drop + Sized {
     ghost reads: { List ℕ → reading.Read Self };
 
     /// The part, and the bytes after it.
@@ -238,22 +237,22 @@ impl<T: ReadPart> ReadPart for Option<T> {
     }
 }
 
-/// The items of a list up to the bracket that closes it, and the bytes after it.
-pub(crate) fn items<T: ReadPart>(
+/// The items of a list up to the byte that closes it, and the bytes after it.
+pub fn items<T: ReadPart>(
     alloc: Global,
+    close: u8,
     text: &[u8],
 ) -> Result<(Items<T>, &[u8]), ReadError>
-    ensures { ReaderAnswers (λ x. (x.0, x.1.now)) result
-        (reading.items_at T.reads close_bracket text.now) }
+    ensures { ReaderAnswers (λ x. (x.0, x.1.now)) result (reading.items_at T.reads close text.now) }
 {
     let mut read = Vec::new(alloc);
-    if let Some(rest) = after(b']', text) {
+    if let Some(rest) = after(close, text) {
         return Ok((Items::new(read), rest));
     }
     let (first, mut rest) = T::read(alloc, text)?;
     read.push(first)?;
     for _ in 0..rest.len() {
-        if let Some(behind) = after(b']', rest) {
+        if let Some(behind) = after(close, rest) {
             return counted(read, text.len(), behind);
         }
         let (_, next) = mark(b',', rest)?;
@@ -265,7 +264,7 @@ pub(crate) fn items<T: ReadPart>(
 }
 
 /// The list, if an Int32 counts it.
-pub(crate) fn counted<T: Drop>(
+pub fn counted<T: Drop>(
     read: Vec<T>,
     left: usize,
     rest: &[u8],

@@ -11,7 +11,7 @@ use ig_value::{Dec, Stamp};
 use itoa::Buffer;
 
 /// A part with a text.
-pub(crate) trait PutText {
+pub trait PutText {
     ghost text: { Self → List ℕ };
 
     /// Appends the text. After an error part of it may stand there.
@@ -207,7 +207,7 @@ pub(crate) fn is_bare(byte: u8) -> bool
 }
 
 /// Appends a quoted text.
-pub(crate) fn put_quoted(bytes: &[u8], out: &mut Octets) -> Result<(), NoMemory>
+pub fn put_quoted(bytes: &[u8], out: &mut Octets) -> Result<(), NoMemory>
     ensures { OnOk result (out.new ≡ out.old ++ tokens.quoted bytes.now) }
 {
     out.push(b'"')?;
@@ -228,19 +228,19 @@ fn put_quoted_byte(byte: u8, out: &mut Octets) -> Result<(), NoMemory>
     put_pair(true, byte, out)
 }
 
-/// Appends the items of a list, and the bracket that closes it.
-pub(crate) fn put_items<T: PutText>(items: &[T], out: &mut Octets) -> Result<(), NoMemory>
-    ensures { OnOk result (out.new ≡ out.old ++ tokens.items_text tokens.close_bracket T.text items.now) }
+/// Appends the items of a list, and the byte that closes it.
+pub fn put_items<T: PutText>(items: &[T], close: u8, out: &mut Octets) -> Result<(), NoMemory>
+    ensures { OnOk result (out.new ≡ out.old ++ tokens.items_text close T.text items.now) }
 {
     let Some((first, rest)) = items.split_first() else {
-        return out.push(b']');
+        return out.push(close);
     };
     first.put(out)?;
     for item in rest {
         out.push(b',')?;
         item.put(out)?;
     }
-    out.push(b']')
+    out.push(close)
 }
 
 /// Appends the flags of an object.

@@ -9,7 +9,7 @@ ghost use Rattle.ig_text.specs.ReaderAnswers.{ReaderAnswers};
 use crate::fault::ReadError;
 
 /// This byte, and the bytes after it.
-pub(crate) fn mark(byte: u8, text: &[u8]) -> Result<((), &[u8]), ReadError>
+pub fn mark(byte: u8, text: &[u8]) -> Result<((), &[u8]), ReadError>
     ensures { ReaderAnswers (λ x. (tt, x.1.now)) result (reading.mark_at byte text.now) }
 {
     match after(byte, text) {
@@ -19,7 +19,7 @@ pub(crate) fn mark(byte: u8, text: &[u8]) -> Result<((), &[u8]), ReadError>
 }
 
 /// The bytes after this byte, if the text begins with it.
-pub(crate) fn after(byte: u8, text: &[u8]) -> Option<&[u8]>
+pub fn after(byte: u8, text: &[u8]) -> Option<&[u8]>
     ensures some { IfSome result (λ rest. text.now ≡ byte ∷ rest.now) }
     ensures none { IsNone result → (rest : List ℕ) → text.now ≡ byte ∷ rest → ⊥ }
 {
@@ -53,7 +53,7 @@ fn is_plain(digits: &[u8]) -> bool
 }
 
 /// A number that isn't negative, and the bytes after it.
-pub(crate) fn natural(text: &[u8]) -> Result<(u64, &[u8]), ReadError>
+pub fn natural(text: &[u8]) -> Result<(u64, &[u8]), ReadError>
     ensures { ReaderAnswers (λ x. (x.0, x.1.now)) result (reading.natural_at text.now) }
 {
     let (digits, rest) = text.split_at(digits_len(text));
@@ -68,7 +68,7 @@ pub(crate) fn natural(text: &[u8]) -> Result<(u64, &[u8]), ReadError>
 }
 
 /// A signed number, from minus the limit on and below the limit, and the bytes after it.
-pub(crate) fn signed(limit: u64, text: &[u8]) -> Result<(i64, &[u8]), ReadError>
+pub fn signed(limit: u64, text: &[u8]) -> Result<(i64, &[u8]), ReadError>
     requires { limit ≤ 2 ^ 63 }
     ensures { ReaderAnswers (λ x. (x.0, x.1.now)) result (reading.signed_at limit text.now) }
 {

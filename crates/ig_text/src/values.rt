@@ -43,6 +43,14 @@ pub fn read_value(alloc: Global, text: &[u8]) -> Result<Value, TextFault>
     }
 }
 
+impl ReadPart for Value {
+    ghost reads = { reading.text_at };
+
+    fn read(alloc: Global, text: &[u8]) -> Result<(Value, &[u8]), ReadError> {
+        value(alloc, DEEPEST, text)
+    }
+}
+
 /// A value that is at most `levels` deep, and the bytes after it.
 #[cycle(value)]
 fn value(alloc: Global, levels: u32, text: &[u8]) -> Result<(Value, &[u8]), ReadError>
@@ -146,7 +154,7 @@ fn list<T: ReadPart, F: FnOnce(Items<T>) -> Value>(
         → ReaderAnswers (λ x. (x.0, x.1.now)) result
         (reading.mapped_read build (reading.items_at T.reads close_bracket text.now)) }
 {
-    let (parts, rest) = items(alloc, text)?;
+    let (parts, rest) = items(alloc, b']', text)?;
     Ok((make(parts), rest))
 }
 

@@ -26,9 +26,17 @@ pub fn write_value(alloc: Global, value: &Value, out: &mut Octets) -> Result<(),
     out.append(text.as_slice())
 }
 
+impl PutText for Value {
+    ghost text = { TextOf };
+
+    fn put(&self, out: &mut Octets) -> Result<(), NoMemory> {
+        put_value(self, out)
+    }
+}
+
 /// Appends the text of the value. After an error part of it may stand there.
 #[cycle(put)]
-pub(crate) fn put_value(value: &Value, out: &mut Octets) -> Result<(), NoMemory>
+fn put_value(value: &Value, out: &mut Octets) -> Result<(), NoMemory>
     ensures { OnOk result (out.new ≡ out.old ++ TextOf value.now) }
 {
     match value {
@@ -100,7 +108,7 @@ fn put_list<T: PutText>(code: Code, items: &[T], out: &mut Octets) -> Result<(),
         ++ (word_text (Kind code) ++ items_text close_bracket T.text items.now)) }
 {
     out.append(word(Row::Kind(code)))?;
-    put_items(items, out)
+    put_items(items, b']', out)
 }
 
 /// Appends a word and two parts.
