@@ -1,5 +1,5 @@
 -- The arguments of a line: what each holds, its text, and how it is read. Each stands after a space.
-use Rattle.std.specs.Prelude.{ℕ, ℤ, pos, zero, suc, ◌+◌, Bool, not, ◌&&◌, List, [], ◌∷◌, ◌++◌, length, take, drop, map, nat_lt, int_le, Result, Ok, Err, ◌==◌, if◌then◌else◌}
+use Rattle.std.specs.Prelude.{ℕ, ℤ, pos, zero, suc, ◌+◌, Bool, not, ◌&&◌, List, [], ◌∷◌, ◌++◌, length, take, drop, map, nat_lt, nat_le, int_le, Result, Ok, Err, ◌==◌, if◌then◌else◌}
 use Rattle.std.specs.Int.{w32, cast_signed, is_in_range}
 use Rattle.std.specs.Fmt.{decimal}
 use Rattle.std.specs.List.{flat_map, prefix_len}
@@ -65,13 +65,17 @@ cache_text (named bytes) = bytes
 abbrev pub is_graphic : ℕ → Bool
 is_graphic b = is_in_range 33 126 b
 
+abbrev pub graphic_len : List ℕ → ℕ
+graphic_len s = prefix_len is_graphic s
+
+-- a name of n bytes: it has at least one
 abbrev pub name_of : ℕ → List ℕ → Read Cache
 name_of zero s = Err (length s)
 name_of (suc n) s = Ok (named (take (suc n) s), drop (suc n) s)
 
 abbrev pub cache_at : List ℕ → Read Cache
 cache_at s =
-    if begins_with (number_sign ∷ []) s then mapped_read numbered (scalar_at i32 (drop 1 s)) else name_of (prefix_len is_graphic s) s
+    if begins_with (number_sign ∷ []) s then mapped_read numbered (scalar_at i32 (drop 1 s)) else name_of (graphic_len s) s
 
 -- ---- the other arguments
 
@@ -88,9 +92,9 @@ pair_of x = record { key = x.0; value = x.1 }
 abbrev pub pair_at : List ℕ → Read Pair
 pair_at s = mapped_read pair_of (joined_at item_at equals item_at s)
 
--- a number below a limit
-abbrev pub below_at : ℕ → List ℕ → Read ℕ
-below_at limit s = checked_read (λ n. nat_lt n limit) (length s) (natural_at s)
+-- a number up to a limit
+abbrev pub up_to_at : ℕ → List ℕ → Read ℕ
+up_to_at limit s = checked_read (λ n. nat_le n limit) (length s) (natural_at s)
 
 -- a page has room for a row
 abbrev pub page_at : List ℕ → Read ℤ
@@ -141,7 +145,7 @@ argument_at nothing s = Ok (tt, s)
 argument_at cache s = spaced_at cache_at s
 argument_at item s = spaced_at item_at s
 argument_at pair s = spaced_at pair_at s
-argument_at small s = spaced_at (below_at 256) s
+argument_at small s = spaced_at (up_to_at 255) s
 argument_at page s = spaced_at page_at s
 argument_at cursor s = spaced_at (scalar_at i64) s
 argument_at type_id s = spaced_at (scalar_at i32) s

@@ -36,10 +36,12 @@ enum_text true = codes "1"
 abbrev pub braced : {A : Type 0} → (A → List ℕ) → List A → List ℕ
 braced text xs = open_brace ∷ items_text close_brace text xs
 
+-- what stands before the lists
+abbrev pub head_text : TypeMeta → List ℕ
+head_text m = codes "type:" ++ (scalar_text i32 m.type_id ++ colon ∷ (quoted m.name ++ colon ∷ (optional_text quoted m.affinity ++ colon ∷ enum_text m.is_enum)))
+
 abbrev pub description_text : TypeMeta → List ℕ
-description_text m =
-    codes "type:"
-    ++ (scalar_text i32 m.type_id ++ colon ∷ (quoted m.name ++ colon ∷ (optional_text quoted m.affinity ++ colon ∷ (enum_text m.is_enum ++ (braced field_text m.fields ++ (braced literal_text m.literals ++ braced schema_text m.schemas))))))
+description_text m = head_text m ++ (braced field_text m.fields ++ (braced literal_text m.literals ++ braced schema_text m.schemas))
 
 -- ---- reading
 

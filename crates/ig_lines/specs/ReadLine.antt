@@ -7,7 +7,7 @@ use Rattle.ig_text.specs.ReadText.{Read, ◌>>=◌, mapped_read, joined_at}
 use Rattle.ig_lines.specs.declared.line.Line.{Line}
 use Rattle.ig_lines.specs.declared.line.LineAsk.{LineAsk}
 use Rattle.ig_lines.specs.declared.word.Word.{Word}
-use Rattle.ig_lines.specs.Arguments.{space, below_at, argument_at, by_id}
+use Rattle.ig_lines.specs.Arguments.{space, up_to_at, argument_at, by_id}
 use Rattle.ig_lines.specs.Commands.{ask_with}
 use Rattle.ig_lines.specs.Words.{shape, word_of}
 
@@ -20,8 +20,11 @@ word_found n s (Some w) = Ok (w, drop n s)
 abbrev pub word_front : ℕ → List ℕ → Read Word
 word_front n s = word_found n s (word_of (take n s))
 
+abbrev pub word_len : List ℕ → ℕ
+word_len s = prefix_len (λ b. not (b == space)) s
+
 abbrev pub word_at : List ℕ → Read Word
-word_at s = word_front (prefix_len (λ b. not (b == space)) s) s
+word_at s = word_front (word_len s) s
 
 -- what a word's arguments ask
 abbrev pub ask_of_word : Word → List ℕ → Read LineAsk
@@ -32,7 +35,7 @@ ask_at s = word_at s >>= λ w. ask_of_word w.0 w.1
 
 -- a lane is 0 to 15
 abbrev pub line_at : List ℕ → Read Line
-line_at s = mapped_read (λ x. record { lane = x.0; ask = x.1 }) (joined_at (below_at 16) space ask_at s)
+line_at s = mapped_read (λ x. record { lane = x.0; ask = x.1 }) (joined_at (up_to_at 15) space ask_at s)
 
 -- where a whole line is to be read: the place of the first wrong part, or of what follows the line
 abbrev pub IsRefusal : List ℕ → ℕ → Read Line → Type 0
