@@ -12,7 +12,7 @@ use Rattle.ig_caches.specs.declared.call.Pair.{Pair}
 use Rattle.ig_text.specs.ReadText.{Read, ◌>>=◌, mapped_read, checked_read, mark_at, begins_with, joined_at, natural_at, scalar_at, quoted_at, text_at}
 use Rattle.ig_text.specs.TextOf.{TextOf}
 use Rattle.ig_text.specs.Tokens.{equals, quoted, scalar_text}
-use Rattle.ig_lines.specs.DescriptionText.{description_text, description_at}
+use Rattle.ig_lines.specs.DescriptionText.{description_text, adjacent_at, description_at}
 
 abbrev pub space : ℕ
 space = 32
@@ -133,13 +133,6 @@ to_end_at one (suc n) (b ∷ s) = do
   xs ← to_end_at one n x.1
   Ok (x.0 ∷ xs.0, xs.1)
 
--- two arguments, one after the other
-abbrev pub next_to_at : {A B : Type 0} → (List ℕ → Read A) → (List ℕ → Read B) → List ℕ → Read (A × B)
-next_to_at first second s = do
-  x ← first s
-  y ← second x.1
-  Ok ((x.0, y.0), y.1)
-
 abbrev pub argument_at : (a : Argument) → List ℕ → Read (Held Cache a)
 argument_at nothing s = Ok (tt, s)
 argument_at cache s = spaced_at cache_at s
@@ -152,7 +145,7 @@ argument_at type_id s = spaced_at (scalar_at i32) s
 argument_at name s = spaced_at name_at s
 argument_at quoted_text s = spaced_at quoted_at s
 argument_at description s = spaced_at description_at s
-argument_at (both a b) s = next_to_at (argument_at a) (argument_at b) s
+argument_at (both a b) s = adjacent_at (argument_at a) (argument_at b) s
 argument_at (listed a) s = to_end_at (argument_at a) (length s) s
 
 -- the same arguments, with each cache by its identifier

@@ -38,10 +38,13 @@ braced text xs = open_brace ∷ items_text close_brace text xs
 
 -- what stands before the lists
 abbrev pub head_text : TypeMeta → List ℕ
-head_text m = codes "type:" ++ (scalar_text i32 m.type_id ++ colon ∷ (quoted m.name ++ colon ∷ (optional_text quoted m.affinity ++ colon ∷ enum_text m.is_enum)))
+head_text m = scalar_text i32 m.type_id ++ colon ∷ (quoted m.name ++ colon ∷ (optional_text quoted m.affinity ++ colon ∷ enum_text m.is_enum))
+
+abbrev pub lists_text : TypeMeta → List ℕ
+lists_text m = braced field_text m.fields ++ (braced literal_text m.literals ++ braced schema_text m.schemas)
 
 abbrev pub description_text : TypeMeta → List ℕ
-description_text m = head_text m ++ (braced field_text m.fields ++ (braced literal_text m.literals ++ braced schema_text m.schemas))
+description_text m = codes "type:" ++ (head_text m ++ lists_text m)
 
 -- ---- reading
 
@@ -60,19 +63,22 @@ schema_at s = mapped_read (λ x. record { id = x.0; ids = x.1 }) (joined_at (sca
 abbrev pub enum_at : List ℕ → Read Bool
 enum_at s = if begins_with (codes "0") s then Ok (false, drop 1 s) else if begins_with (codes "1") s then Ok (true, drop 1 s) else Err (length s)
 
+abbrev pub braced_at : {A : Type 0} → (List ℕ → Read A) → List ℕ → Read (List A)
+braced_at one s = mark_at open_brace s >>= λ m. items_at one close_brace m.1
+
+-- two parts, one after the other
+abbrev pub adjacent_at : {A B : Type 0} → (List ℕ → Read A) → (List ℕ → Read B) → List ℕ → Read (A × B)
+adjacent_at first second s = do
+  x ← first s
+  y ← second x.1
+  Ok ((x.0, y.0), y.1)
+
 -- the three lists
 abbrev pub Lists : Type 0
 Lists = List FieldMeta × (List Literal × List SchemaMeta)
 
-abbrev pub braced_at : {A : Type 0} → (List ℕ → Read A) → List ℕ → Read (List A)
-braced_at one s = mark_at open_brace s >>= λ m. items_at one close_brace m.1
-
 abbrev pub lists_at : List ℕ → Read Lists
-lists_at s = do
-  fields ← braced_at field_at s
-  literals ← braced_at literal_at fields.1
-  schemas ← braced_at schema_at literals.1
-  Ok ((fields.0, (literals.0, schemas.0)), schemas.1)
+lists_at s = adjacent_at (braced_at field_at) (adjacent_at (braced_at literal_at) (braced_at schema_at)) s
 
 -- the identifier, the name, the affinity key, and whether the type is an enum
 abbrev pub Head : Type 0
@@ -81,19 +87,16 @@ Head = ℤ × (List ℕ × (Option (List ℕ) × Bool))
 abbrev pub head_at : List ℕ → Read Head
 head_at s = joined_at (scalar_at i32) colon (joined_at quoted_at colon (joined_at (optional_at quoted_at) colon enum_at)) s
 
-abbrev pub description_of : Head → Lists → TypeMeta
-description_of h l =
-    record { type_id = h.0; name = h.1.0; affinity = h.1.1.0; is_enum = h.1.1.1; fields = l.0; literals = l.1.0; schemas = l.1.1 }
+abbrev pub description_of : Head × Lists → TypeMeta
+description_of x =
+    record { type_id = x.0.0; name = x.0.1.0; affinity = x.0.1.1.0; is_enum = x.0.1.1.1; fields = x.1.0; literals = x.1.1.0; schemas = x.1.1.1 }
 
-abbrev pub word_at : List ℕ → List ℕ → Read (Unit {0})
-word_at word s = if begins_with word s then Ok (tt, drop (length word) s) else Err (length s)
+-- what follows a word
+abbrev pub after_word : {A : Type 0} → List ℕ → (List ℕ → Read A) → List ℕ → Read A
+after_word word one s = if begins_with word s then one (drop (length word) s) else Err (length s)
 
 abbrev pub whole_at : List ℕ → Read TypeMeta
-whole_at s = do
-  word ← word_at (codes "type:") s
-  head ← head_at word.1
-  lists ← lists_at head.1
-  Ok (description_of head.0 lists.0, lists.1)
+whole_at s = mapped_read description_of (after_word (codes "type:") (adjacent_at head_at lists_at) s)
 
 -- ---- order
 

@@ -1,7 +1,9 @@
-pub mod Arguments
 pub mod DescriptionText
-pub mod Commands
+pub mod Arguments
 pub mod Words
+pub mod Commands
+pub mod FitsLine
 pub mod LineText
 pub mod ReadLine
+pub mod LineLaws
 pub mod ShownText

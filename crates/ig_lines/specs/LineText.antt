@@ -1,10 +1,11 @@
 -- The texts of a line.
-use Rattle.std.specs.Prelude.{◌≡◌, ℕ, ℤ, List, [], ◌∷◌, ◌++◌, Option, Some, None}
+use Rattle.std.specs.Prelude.{◌≡◌, ◌≤◌, ℕ, ℤ, List, [], ◌∷◌, ◌++◌, map, Option, Some, None}
 use Rattle.std.specs.Fmt.{decimal}
 use Rattle.ig_lines.specs.declared.line.Line.{Line}
 use Rattle.ig_lines.specs.declared.line.LineAsk.{LineAsk}
-use Rattle.ig_lines.specs.Arguments.{Cache, space, numbered_text, cache_text, argument_text, by_id}
+use Rattle.ig_lines.specs.Arguments.{Argument, nothing, cache, item, pair, small, page, cursor, type_id, name, quoted_text, description, both, listed, Held, Cache, numbered, space, numbered_text, cache_text, argument_text, by_id}
 use Rattle.ig_lines.specs.Commands.{Command, ask_with, command_of}
+use Rattle.ig_lines.specs.FitsLine.{FitsArgument}
 use Rattle.ig_lines.specs.Words.{text_of, shape}
 
 abbrev pub command_text : {C : Type 0} → (C → List ℕ) → Command C → List ℕ
@@ -26,8 +27,39 @@ LineOf line = decimal line.lane ++ space ∷ AskText line.ask
 abbrev pub line_with : ℕ → Command Cache → Line
 line_with lane c = record { lane = lane; ask = ask_with c.0 (by_id (shape c.0) c.1) }
 
--- a text of the line: the same, or with any cache by a name that has its identifier
+-- A text of the line, which keeps to the limits: the same, or with any cache by a name that has its
+-- identifier.
 pub record IsLineText (s : List ℕ) (line : Line) : Type 0 where
   pub command : Command Cache
   pub same : line ≡ line_with line.lane command
+  pub lane : line.lane ≤ 15
+  pub fits : FitsArgument (shape command.0) command.1
   pub whole : s ≡ decimal line.lane ++ space ∷ command_text cache_text command
+
+-- the same arguments, with each identifier as it is written
+abbrev pub by_number : (a : Argument) → Held ℤ a → Held Cache a
+by_number cache x = numbered x
+by_number (both a b) x = (by_number a x.0, by_number b x.1)
+by_number (listed a) xs = map (by_number a) xs
+by_number nothing x = x
+by_number item x = x
+by_number pair x = x
+by_number small x = x
+by_number page x = x
+by_number cursor x = x
+by_number type_id x = x
+by_number name x = x
+by_number quoted_text x = x
+by_number description x = x
+
+abbrev pub FitsCommand : Option (Command ℤ) → Type 0
+FitsCommand None = ⊥
+FitsCommand (Some c) = FitsArgument (shape c.0) (by_number (shape c.0) c.1)
+
+-- what is asked has a text: it is neither a whole scan nor a call for pairs of caches, and it keeps to the
+-- limits
+abbrev pub FitsAsk : LineAsk → Type 0
+FitsAsk ask = FitsCommand (command_of ask)
+
+abbrev pub FitsLine : Line → Type 0
+FitsLine line = (line.lane ≤ 15) × FitsAsk line.ask

@@ -5,7 +5,7 @@ ghost use Rattle.ig_value.specs.Part as scalar;
 ghost use Rattle.ig_text.specs.ReadText.{Read, mapped_read, scalar_at, quoted_at};
 ghost use Rattle.ig_text.specs.ReaderAnswers.{ReaderAnswers};
 ghost use Rattle.ig_lines.specs.Arguments as arguments;
-ghost use Rattle.ig_lines.specs.DescriptionText.{description_at};
+ghost use Rattle.ig_lines.specs.DescriptionText.{adjacent_at};
 
 use crate::description::description;
 use ig_base::{Items, Text, text_hash};
@@ -242,7 +242,7 @@ impl Argument for TypeMeta {
 impl<F: Argument, G: Argument> Argument for (F, G) {
     type Item = (F::Item, G::Item);
 
-    ghost reads = { arguments.next_to_at F.reads G.reads };
+    ghost reads = { adjacent_at F.reads G.reads };
 
     fn read(alloc: Global, text: &[u8]) -> Result<((F::Item, G::Item), &[u8]), ReadError> {
         let (first, rest) = F::read(alloc, text)?;

@@ -1,6 +1,6 @@
 //! Writing the text of a description of a type.
 
-ghost use Rattle.std.specs.Prelude.{◌≡◌, ◌++◌, ◌∷◌, OnOk};
+ghost use Rattle.std.specs.Prelude.{◌≡◌, ◌++◌, codes, OnOk};
 ghost use Rattle.ig_lines.specs.DescriptionText as descriptions;
 
 use ig_base::{NoMemory, Octets};
@@ -52,7 +52,7 @@ impl PutText for TypeMeta {
 
 /// Appends what stands before the lists.
 fn put_head(meta: &TypeMeta, out: &mut Octets) -> Result<(), NoMemory>
-    ensures { OnOk result (out.new ≡ out.old ++ descriptions.head_text meta.now) }
+    ensures { OnOk result (out.new ≡ out.old ++ (codes "type:" ++ descriptions.head_text meta.now)) }
 {
     out.append(b"type:")?;
     meta.type_id.put(out)?;

@@ -20,13 +20,13 @@ use Rattle.ig_text.specs.declared.row.Row.TheVariants.{Kind, CompactObject}
 use Rattle.ig_text.specs.Tokens.{colon, comma, equals, open_bracket, close_bracket, open_brace, close_brace, hex, scalar_text, until_text, items_text}
 use Rattle.ig_text.specs.Words.{word, rows, row_at, object_row}
 use Rattle.ig_text.specs.TextOf.{mark, head_text, entries, entry_text, shape_text, object_text, part_text, row_of, row_text, layer_text, TextOf}
-use Rattle.ig_text.specs.TextLaws.{Ends, IsReadAs, ReadIsText, TextIsRead, TextTellsApart}
+use Rattle.ig_text.specs.TextLaws.{Ends, AreItems, IsReadAs, ReadIsText, TextIsRead, TextTellsApart}
 use Rattle.ig_text.specs.ReadText.{Read, ◌>>=◌, mapped_read, is_hex, mark_at, begins_with, joined_at, items_at, octets_at, scalar_at, named_at, compact_at, swapped, alone, part_at, content_at, known_at, value_at, text_at}
 use Rattle.ig_text.proofs.ReadsLemmas.{Takes, Reads, Refuses, RefusesNone, bind_ok, done, ok_is, with_end, mapped_reads, viewed_reads, joined_reads}
 use Rattle.ig_text.proofs.HexLemmas.{octets_reads}
 use Rattle.ig_text.proofs.TokenLemmas.{begun, scalar_reads, stamp_reads, decimal_reads, uuid_reads, quoted_reads}
 use Rattle.ig_text.proofs.RefusalLemmas.{Begins, bracket, scalar_begins, quoted_begins, uuid_begins, stamp_begins, decimal_begins, optional_refuses, optional_none, value_refuses_bracket, value_refuses_brace, value_none}
-use Rattle.ig_text.proofs.ObjectTextLemmas.{AreItems, items_reads, closes_bracket, optional_reads, IsNamed, IsNamedObject, named_reads, IsCompact, IsCompactObject, compact_reads}
+use Rattle.ig_text.proofs.ObjectTextLemmas.{items_reads, closes_bracket, optional_reads, IsNamed, IsNamedObject, named_reads, IsCompact, IsCompactObject, compact_reads}
 
 -- ---- the text of a value, by those of the values inside
 

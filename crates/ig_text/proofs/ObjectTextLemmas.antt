@@ -14,7 +14,7 @@ use Rattle.ig_value.specs.Part.{i32, u16}
 use Rattle.ig_value.specs.Spells.{IsInRange}
 use Rattle.ig_text.specs.Tokens.{colon, comma, equals, close_bracket, open_brace, close_brace, scalar_text, until_text, items_text}
 use Rattle.ig_text.specs.TextOf.{head_text, entries, entry_text, shape_text, object_text, optional_text}
-use Rattle.ig_text.specs.TextLaws.{Ends}
+use Rattle.ig_text.specs.TextLaws.{Ends, AreItems}
 use Rattle.ig_text.specs.ReadText.{Read, ◌>>=◌, mapped_read, checked_read, begins_with, joined_at, natural_at, scalar_at, is_countable, items_at, any_at, optional_at, bits_at, is_type, type_at, head_at, entry_at, named_object, named_at, compact_object, fields_at, compact_at}
 use Rattle.ig_text.proofs.ReadsLemmas.{Takes, Reads, Refuses, RefusesNone, Anything, Closes, bind_ok, done, ok_is, with_end, viewed_reads, checked_reads, joined_reads, any_reads}
 use Rattle.ig_text.proofs.NumberLemmas.{natural_reads}
@@ -22,9 +22,6 @@ use Rattle.ig_text.proofs.TokenLemmas.{begun, begins, scalar_reads}
 use Rattle.ig_text.proofs.RefusalLemmas.{Begins, letter_n, brace, scalar_begins, joined_begins}
 
 -- ---- lists that an Int32 counts
-
-abbrev pub AreItems : {A : Type 0} → (A → Type 0) → List A → Type 0
-AreItems Fits xs = (length xs < 2 ^ 31) × AllByRecursion Fits xs
 
 pub items_reads : {A : Type 0} (Fits : A → Type 0) (T : A → List ℕ) (R : List ℕ → Read A) (close : ℕ) → Closes close → Reads Fits T Ends R → Refuses R close → RefusesNone R → Reads (AreItems Fits) (items_text close T) Ends (items_at R close)
 items_reads Fits T R close c p refuses none =

@@ -43,7 +43,7 @@ run_begins upper n = record {
   none = λ z e. cc;
 }
 
-mapped_begins : {A B : Type 0} (f : A → B) (R : List ℕ → Read A) → Begins R → Begins (λ s. mapped_read f (R s))
+pub mapped_begins : {A B : Type 0} (f : A → B) (R : List ℕ → Read A) → Begins R → Begins (λ s. mapped_read f (R s))
 mapped_begins f R p = record {
   refuses = λ stop s z e. let a = bind_ok (R (byte_of_stop stop ∷ s)) (λ x. done (f x.0, x.1)) z e in p.refuses stop s a.0 a.1;
   none = λ z e. let a = bind_ok (R []) (λ x. done (f x.0, x.1)) z e in p.none a.0 a.1;

@@ -1,5 +1,6 @@
 -- Laws of the texts of values.
-use Rattle.std.specs.Prelude.{◌≡◌, ◌≤◌, ◌*◌, true, false, List, [], ◌∷◌, ◌++◌, length, ℕ, Ok}
+use Rattle.std.specs.Prelude.{◌≡◌, ◌<◌, ◌≤◌, ◌*◌, ◌^◌, true, false, List, [], ◌∷◌, ◌++◌, length, ℕ, Ok}
+use Rattle.std.specs.List.{AllByRecursion}
 use Rattle.ig_value.specs.declared.value.Value.{Value}
 use Rattle.ig_value.specs.Canon.{Canon}
 use Rattle.ig_value.specs.Limits.{Fits}
@@ -10,6 +11,10 @@ use Rattle.ig_text.specs.TextOf.{TextOf}
 abbrev pub Ends : List ℕ → Type 0
 Ends [] = Unit {0}
 Ends (b ∷ s) = is_hex true b ≡ false
+
+-- items that fit, as many as an Int32 counts
+abbrev pub AreItems : {A : Type 0} → (A → Type 0) → List A → Type 0
+AreItems Fits xs = (length xs < 2 ^ 31) × AllByRecursion Fits xs
 
 -- what is read keeps to the limits, and its text stood there
 pub record IsReadAs (s : List ℕ) (v : Value) (rest : List ℕ) : Type 0 where
