@@ -1,6 +1,7 @@
 -- The words of operations, each with the arguments that follow it.
-use Rattle.std.specs.Prelude.{ℕ, List, [], ◌∷◌, codes, Option, Bool}
-use Rattle.std.specs.List.{find, list_eq}
+use Rattle.std.specs.Prelude.{ℕ, List, [], ◌∷◌, codes, Option}
+use Rattle.std.specs.List.{find}
+use Rattle.std.specs.Str.{bytes_eq}
 use Rattle.ig_lines.specs.declared.word.Word.{Word}
 use Rattle.ig_lines.specs.declared.word.Word.TheVariants as word
 use Rattle.ig_lines.specs.Arguments.{Argument, nothing, cache, item, pair, small, page, cursor, type_id, name, quoted_text, description, both, listed}
@@ -49,7 +50,7 @@ words =
 
 -- the word with this text, if any
 abbrev pub word_of : List ℕ → Option Word
-word_of s = find (λ w. list_eq (λ a b. a == b) s (text_of w)) words
+word_of s = find (λ w. bytes_eq s (text_of w)) words
 
 -- ---- the arguments
 

@@ -14,6 +14,7 @@
 mod arguments;
 mod asks;
 mod description;
+mod laws;
 mod line;
 mod put_arguments;
 mod put_ask;
@@ -22,6 +23,7 @@ mod read_line;
 mod shown;
 mod word;
 
+pub use laws::one_line;
 pub use line::{Line, LineAsk};
 pub use put_ask::{put_ask, put_line};
 pub use read_line::read_line;
