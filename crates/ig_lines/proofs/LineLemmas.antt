@@ -1,5 +1,5 @@
 -- Lines are read as they are written.
-use Rattle.std.proofs.Common.{◌≡◌, ℕ, ℤ, zero, suc, ◌+◌, ◌<◌, ◌≤◌, Bool, true, false, cond, not, ◌&&◌, List, [], ◌∷◌, ◌++◌, length, map, take, drop, Option, Some, None, Ok, Err, eqb, refl, sym, ap, subst, ◌∙◌, append_assoc, arith}
+use Rattle.std.proofs.Common.{◌≡◌, ℕ, ℤ, zero, suc, ◌+◌, ◌<◌, ◌≤◌, Bool, true, false, cond, not, ◌&&◌, List, [], ◌∷◌, ◌++◌, length, map, take, drop, Option, Some, None, Result, Ok, Err, eqb, refl, sym, ap, subst, ◌∙◌, append_assoc, arith}
 use Rattle.std.specs.Fmt.{decimal}
 use Rattle.std.specs.List.{find, prefix_len}
 use Rattle.std.specs.Str.{bytes_eq}
@@ -9,6 +9,8 @@ use Rattle.std.proofs.lemmas.Slice.Eq.{bytes_eq-Decides}
 use Rattle.ig_caches.specs.declared.call.Call.{Call}
 use Rattle.ig_caches.specs.declared.call.Call.TheVariants.{Scan, Affinity}
 use Rattle.ig_caches.specs.declared.request.Request.TheVariants as request
+use Rattle.ig_text.specs.declared.fault.TextFault.{TextFault}
+use Rattle.ig_text.specs.declared.fault.TextFault.TheVariants as fault
 use Rattle.ig_text.specs.ReadText.{Read, ◌>>=◌, mapped_read, mark_at, joined_at}
 use Rattle.ig_text.proofs.ReadsLemmas.{Takes, Reads, bind_ok, done, ok_is, mark_taken, mark_again}
 use Rattle.ig_lines.specs.declared.line.Line.{Line}
@@ -19,9 +21,9 @@ use Rattle.ig_lines.specs.declared.word.Word.TheVariants as word
 use Rattle.ig_lines.specs.Arguments.{space, Argument, nothing, cache, item, pair, small, page, cursor, type_id, name, quoted_text, description, both, listed, Held, Cache, cache_text, numbered_text, up_to_at, argument_text, argument_at, by_id}
 use Rattle.ig_lines.specs.Commands.{Command, run, ask_with, call_command, command_of}
 use Rattle.ig_lines.specs.FitsLine.{FitsArgument}
-use Rattle.ig_lines.specs.LineText.{command_text, optional_command_text, AskText, LineOf, line_with, IsLineText, by_number, FitsCommand}
+use Rattle.ig_lines.specs.LineText.{command_text, optional_command_text, AskText, LineOf, line_with, IsLineText, IsTextResult, by_number, FitsCommand}
 use Rattle.ig_lines.specs.LineLaws.{LineIsText, TextIsLine, WrittenIsText, LinesTellApart}
-use Rattle.ig_lines.specs.ReadLine.{word_found, word_front, word_len, word_at, ask_of_word, ask_at, line_at}
+use Rattle.ig_lines.specs.ReadLine.{word_found, word_front, word_len, word_at, ask_of_word, ask_at, line_at, IsRefusal, IsLineResult}
 use Rattle.ig_lines.specs.Words.{text_of, words, word_of, shape}
 use Rattle.ig_lines.proofs.ArgumentLemmas.{Spaced, IsProper, Follows, up_to_reads, argument_reads, argument_spaced}
 
@@ -265,3 +267,17 @@ lines_tell_apart l m fl fm e =
     let second : Line × List ℕ = (m, []) in
     let same : done first ≡ done second = sym (text_is_line (LineOf l) l (written_is_text l fl)) ∙ ap line_at e ∙ text_is_line (LineOf m) m (written_is_text m fm) in
     ap (λ (z : Line × List ℕ). z.0) (ok_is first second same)
+
+-- ---- a whole line is read, or is none
+
+refused : (s : List ℕ) (place : ℕ) (r : Read Line) → line_at s ≡ r → IsRefusal s place r → (l : Line) → IsLineText s l → ⊥
+refused s place (Ok z) is h l text =
+    let whole : Line × List ℕ = (l, []) in
+    let read : done z ≡ done whole = sym is ∙ text_is_line s l text in
+    h.1 (ap (λ (y : Line × List ℕ). y.1) (ok_is z whole read))
+refused s place (Err left) is h l text = let both = sym is ∙ text_is_line s l text in cc
+
+pub whole_result : (s : List ℕ) (r : Result Line TextFault) → IsLineResult s r → IsTextResult s r
+whole_result s (Ok l) e = line_is_text s l e
+whole_result s (Err fault.NoMemory) e = tt
+whole_result s (Err (fault.Bad place)) e = λ l text. refused s place (line_at s) refl e l text

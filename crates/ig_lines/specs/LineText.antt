@@ -1,6 +1,8 @@
 -- The texts of a line.
-use Rattle.std.specs.Prelude.{◌≡◌, ◌≤◌, ℕ, ℤ, List, [], ◌∷◌, ◌++◌, map, Option, Some, None}
+use Rattle.std.specs.Prelude.{◌≡◌, ◌≤◌, ℕ, ℤ, List, [], ◌∷◌, ◌++◌, map, Option, Some, None, Result, Ok, Err}
 use Rattle.std.specs.Fmt.{decimal}
+use Rattle.ig_text.specs.declared.fault.TextFault.{TextFault}
+use Rattle.ig_text.specs.declared.fault.TextFault.TheVariants as fault
 use Rattle.ig_lines.specs.declared.line.Line.{Line}
 use Rattle.ig_lines.specs.declared.line.LineAsk.{LineAsk}
 use Rattle.ig_lines.specs.Arguments.{Argument, nothing, cache, item, pair, small, page, cursor, type_id, name, quoted_text, description, both, listed, Held, Cache, numbered, space, numbered_text, cache_text, argument_text, by_id}
@@ -35,6 +37,16 @@ pub record IsLineText (s : List ℕ) (line : Line) : Type 0 where
   pub lane : line.lane ≤ 15
   pub fits : FitsArgument (shape command.0) command.1
   pub whole : s ≡ decimal line.lane ++ space ∷ command_text cache_text command
+
+-- where the text isn't that of a line, it is refused, unless memory ran out
+abbrev pub IsNoText : List ℕ → TextFault → Type 0
+IsNoText s fault.NoMemory = Unit {0}
+IsNoText s (fault.Bad place) = (line : Line) → IsLineText s line → ⊥
+
+-- the line of which this is a text
+abbrev pub IsTextResult : List ℕ → Result Line TextFault → Type 0
+IsTextResult s (Ok line) = IsLineText s line
+IsTextResult s (Err e) = IsNoText s e
 
 -- the same arguments, with each identifier as it is written
 abbrev pub by_number : (a : Argument) → Held ℤ a → Held Cache a

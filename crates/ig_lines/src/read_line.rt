@@ -2,6 +2,7 @@
 
 ghost use Rattle.std.specs.Prelude.{◌≡◌};
 ghost use Rattle.ig_text.specs.ReaderAnswers.{ReaderAnswers};
+ghost use Rattle.ig_lines.specs.LineText.{IsTextResult};
 ghost use Rattle.ig_lines.specs.ReadLine as reading;
 
 use crate::arguments::up_to;
@@ -20,6 +21,7 @@ const LAST_LANE: u8 = 15;
 /// a line, and tells the offset of the first part that is wrong; where only a part of them is a line,
 /// that is the offset after it.
 pub fn read_line(alloc: Global, text: &[u8]) -> Result<Line, TextFault>
+    ensures is_text { IsTextResult text.now result }
     ensures place { reading.IsLineResult text.now result }
 {
     match line(alloc, text) {

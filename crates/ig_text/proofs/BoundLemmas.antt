@@ -153,8 +153,13 @@ part_bound Fits T B inner (both p q) is x fits =
 part_bound Fits T B inner (counted nothing q) is x fits =
     omega (arith, counted_parts [] (flat_map (part_bytes B q) x.1) (length x.1), list_bound (part_text T q) (part_bytes B q) (FitsPart Fits q) (part_bound Fits T B inner q is.1) x.1 fits.1.1)
 part_bound Fits T B inner (counted p q) is x fits =
-    omega (arith, counted_parts (part_bytes B p x.0) (flat_map (part_bytes B q) x.1) (length x.1), part_bound Fits T B inner p is.0 x.0 fits.1.0,
-    list_bound (part_text T q) (part_bytes B q) (FitsPart Fits q) (part_bound Fits T B inner q is.1.1) x.1 fits.1.1, length-append (part_text T p x.0) (open_bracket ∷ items_text close_bracket (part_text T q) x.1))
+    omega (
+      arith,
+      counted_parts (part_bytes B p x.0) (flat_map (part_bytes B q) x.1) (length x.1),
+      part_bound Fits T B inner p is.0 x.0 fits.1.0,
+      list_bound (part_text T q) (part_bytes B q) (FitsPart Fits q) (part_bound Fits T B inner q is.1.1) x.1 fits.1.1,
+      length-append (part_text T p x.0) (open_bracket ∷ items_text close_bracket (part_text T q) x.1),
+    )
 part_bound Fits T B inner (optional c p) is x fits = optional_bound Fits T B c p is.0 x fits
 
 -- ---- objects: at most eight bytes of the footer for a field

@@ -60,9 +60,9 @@ optional_again {A} Fits T R p q (Some x) rest fits ends =
     let s : List ℕ = T x ++ rest in
     let one : R s ≡ Ok (x, rest) = p.again x rest fits ends in
     let no_null : begins_with (codes "null") s ≡ false =
-        false_from_ne_true (begins_with (codes "null") s) (λ e.
-            let whole : s ≡ 110 ∷ drop 1 (codes "null" ++ drop 4 s) = begun (codes "null") s e in
-            q.refuses letter_n (drop 1 (codes "null" ++ drop 4 s)) (x, rest) (subst (λ (l : List ℕ). R l ≡ Ok (x, rest)) whole one)) in
+    false_from_ne_true (begins_with (codes "null") s) (λ e.
+    let whole : s ≡ 110 ∷ drop 1 (codes "null" ++ drop 4 s) = begun (codes "null") s e in
+    q.refuses letter_n (drop 1 (codes "null" ++ drop 4 s)) (x, rest) (subst (λ (l : List ℕ). R l ≡ Ok (x, rest)) whole one)) in
     let none : Option A × List ℕ = (None, drop 4 s) in
     cond-false (begins_with (codes "null") s) (done none) (mapped_read Some (R s)) no_null ∙ ap (mapped_read Some) one
 
@@ -193,12 +193,17 @@ named_there : {X : Type 0} (Fits : X → Type 0) (x : NamedParts X) → AreNamed
 named_there {X} Fits x f =
     let es : List (ℤ × X) = x.1 in
     let n : length (map field_of es) ≡ length es = length-map es field_of in
-    let m : length (map id_of es) ≡ length es = length-map es id_of in
-    ((record {
-      head = record { bits = f.0.0.0; kept = f.0.0.1; type = f.0.1.0; registered = f.0.1.1; shape = (all_ids Fits es f.1.1, m ∙ sym n) };
-      few = omega (arith, n, f.1.0);
-      fields = all_fields Fits es f.1.1;
-    }, tt), ap (λ (l : List (ℤ × X)). ((x.0.0, x.0.1), l)) (entries_back es))
+    let m : length (map id_of es) ≡ length es = length-map es id_of in (
+      (
+        record {
+          head = record { bits = f.0.0.0; kept = f.0.0.1; type = f.0.1.0; registered = f.0.1.1; shape = (all_ids Fits es f.1.1, m ∙ sym n) };
+          few = omega (arith, n, f.1.0);
+          fields = all_fields Fits es f.1.1;
+        },
+        tt,
+      ),
+      ap (λ (l : List (ℤ × X)). ((x.0.0, x.0.1), l)) (entries_back es),
+    )
 
 named_case : {X : Type 0} (Fits : X → Type 0) (T : X → List ℕ) (bits : ℕ) (type : ℤ) (shape : Shape) (xs : List X) →
     let o : Record X = record { bits = bits; type_id = type; shape = shape; fields = xs } in
@@ -206,11 +211,12 @@ named_case : {X : Type 0} (Fits : X → Type 0) (T : X → List ℕ) (bits : ℕ
 named_case Fits T bits type (Compact schema) xs f = absurd f.1
 named_case {X} Fits T bits type (Named ids) xs f =
     let h = f.0.head in
-    let same : length ids ≡ length xs = h.shape.1 in
-    ((((h.bits, h.kept), (h.type, h.registered)), (omega (arith, length_entries ids xs same, f.0.few), all_entries Fits ids xs same h.shape.0 f.0.fields)),
-    ap (λ (l : List ℤ). record { bits = bits; type_id = type; shape = Named l; fields = map field_of (entries ids xs) }) (ids_entries ids xs same)
-    ∙ ap (λ (l : List X). record { bits = bits; type_id = type; shape = Named ids; fields = l }) (fields_entries ids xs same),
-    refl)
+    let same : length ids ≡ length xs = h.shape.1 in (
+      (((h.bits, h.kept), (h.type, h.registered)), (omega (arith, length_entries ids xs same, f.0.few), all_entries Fits ids xs same h.shape.0 f.0.fields)),
+      ap (λ (l : List ℤ). record { bits = bits; type_id = type; shape = Named l; fields = map field_of (entries ids xs) }) (ids_entries ids xs same)
+          ∙ ap (λ (l : List X). record { bits = bits; type_id = type; shape = Named ids; fields = l }) (fields_entries ids xs same),
+      refl,
+    )
 
 pub named_reads : {X : Type 0} (Fits : X → Type 0) (T : X → List ℕ) (R : List ℕ → Read X) → Reads Fits T Ends R → Reads (IsNamedObject Fits) (object_text T) Ends (named_at R)
 named_reads Fits T R p =
@@ -258,11 +264,17 @@ abbrev compact_parts : {X : Type 0} → Record X → CompactParts X
 compact_parts o = ((o.bits, o.type_id), (schema_of o.shape, o.fields))
 
 compact_there : {X : Type 0} (Fits : X → Type 0) (x : CompactParts X) → AreCompactParts Fits x → IsCompactObject Fits (compact_object x) × (compact_parts (compact_object x) ≡ x)
-compact_there Fits x f = ((record {
-  head = record { bits = f.0.0.0; kept = f.0.0.1; type = f.0.1.0; registered = f.0.1.1; shape = (f.1.0, f.1.1.1) };
-  few = f.1.1.0.0;
-  fields = f.1.1.0.1;
-}, tt), refl)
+compact_there Fits x f = (
+  (
+    record {
+      head = record { bits = f.0.0.0; kept = f.0.0.1; type = f.0.1.0; registered = f.0.1.1; shape = (f.1.0, f.1.1.1) };
+      few = f.1.1.0.0;
+      fields = f.1.1.0.1;
+    },
+    tt,
+  ),
+  refl,
+)
 
 compact_case : {X : Type 0} (Fits : X → Type 0) (T : X → List ℕ) (bits : ℕ) (type : ℤ) (shape : Shape) (xs : List X) →
     let o : Record X = record { bits = bits; type_id = type; shape = shape; fields = xs } in

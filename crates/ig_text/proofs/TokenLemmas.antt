@@ -138,21 +138,23 @@ uuid_there x f =
     let bm : AreBytes m = bytes_append x.0 (x.1.0 ++ x.1.1.0) f.0.0 (bytes_append x.1.0 x.1.1.0 f.1.0.0 f.1.1.0.0) in
     let bl : AreBytes l = bytes_append x.1.1.1.0 x.1.1.1.1 f.1.1.1.0.0 f.1.1.1.1.0 in
     let lm : length m ≡ 8 = omega (arith, length-append x.0 (x.1.0 ++ x.1.1.0), length-append x.1.0 x.1.1.0, f.0.1, f.1.0.1, f.1.1.0.1) in
-    let ll : length l ≡ 8 = omega (arith, length-append x.1.1.1.0 x.1.1.1.1, f.1.1.1.0.1, f.1.1.1.1.1) in
-    ((width64.below m bm, width64.below l bl),
-    ap (λ (s : List ℕ). fields_from s (to_be_bytes w64 (from_be_bytes w64 l))) (width64.there m lm bm)
-    ∙ ap (λ (s : List ℕ). fields_from m s) (width64.there l ll bl)
-    ∙ cut_fields x.0 x.1.0 x.1.1.0 x.1.1.1.0 x.1.1.1.1 f.0.1 f.1.0.1 f.1.1.1.0.1)
+    let ll : length l ≡ 8 = omega (arith, length-append x.1.1.1.0 x.1.1.1.1, f.1.1.1.0.1, f.1.1.1.1.1) in (
+      (width64.below m bm, width64.below l bl),
+      ap (λ (s : List ℕ). fields_from s (to_be_bytes w64 (from_be_bytes w64 l))) (width64.there m lm bm)
+          ∙ ap (λ (s : List ℕ). fields_from m s) (width64.there l ll bl)
+          ∙ cut_fields x.0 x.1.0 x.1.1.0 x.1.1.1.0 x.1.1.1.1 f.0.1 f.1.0.1 f.1.1.1.0.1,
+    )
 
 uuid_back : (y : NodeId) → IsLimitedUuid y → AreFields (fields_of y) × (uuid_with (fields_of y) ≡ y) × (fields_text (fields_of y) ≡ uuid_text y)
 uuid_back y fits =
     let m : List ℕ = to_be_bytes w64 y.most in
     let l : List ℕ = to_be_bytes w64 y.least in
     let bm : AreBytes m = width64.bytes y.most in
-    let bl : AreBytes l = width64.bytes y.least in
-    (((AreBytes-take 4 m bm, refl), ((AreBytes-take 2 (drop 4 m) (AreBytes-drop 4 m bm), refl), ((AreBytes-drop 6 m bm, refl), ((AreBytes-take 2 l bl, refl), (AreBytes-drop 2 l bl, refl))))),
-    ap (λ (n : ℕ). record { most = n; least = from_be_bytes w64 l }) (width64.again y.most fits.0) ∙ ap (λ (n : ℕ). record { most = y.most; least = n }) (width64.again y.least fits.1),
-    refl)
+    let bl : AreBytes l = width64.bytes y.least in (
+      ((AreBytes-take 4 m bm, refl), ((AreBytes-take 2 (drop 4 m) (AreBytes-drop 4 m bm), refl), ((AreBytes-drop 6 m bm, refl), ((AreBytes-take 2 l bl, refl), (AreBytes-drop 2 l bl, refl))))),
+      ap (λ (n : ℕ). record { most = n; least = from_be_bytes w64 l }) (width64.again y.most fits.0) ∙ ap (λ (n : ℕ). record { most = y.most; least = n }) (width64.again y.least fits.1),
+      refl,
+    )
 
 pub uuid_reads : Reads IsLimitedUuid uuid_text Ends uuid_at
 uuid_reads = viewed_reads uuid_with fields_of AreFields fields_text Ends fields_at IsLimitedUuid uuid_text uuid_there uuid_back fields_reads

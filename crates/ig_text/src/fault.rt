@@ -35,9 +35,7 @@ impl std::error::Error for TextFault {}
 pub enum ReadError {
     NoMemory,
     /// The first wrong part, by the number of bytes that are left where it begins.
-    Bad {
-        left: usize,
-    },
+    Bad { left: usize },
 }
 
 impl From<NoMemory> for ReadError {

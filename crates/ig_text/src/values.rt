@@ -72,12 +72,7 @@ fn value(alloc: Global, levels: u32, text: &[u8]) -> Result<(Value, &[u8]), Read
 /// The content after the word of a kind, and the bytes after it. A value inside is at most `levels`
 /// deep.
 #[cycle(value)]
-fn content(
-    alloc: Global,
-    levels: u32,
-    code: Code,
-    text: &[u8],
-) -> Result<(Value, &[u8]), ReadError>
+fn content(alloc: Global, levels: u32, code: Code, text: &[u8]) -> Result<(Value, &[u8]), ReadError>
     ensures { ReaderAnswers (λ x. (x.0, x.1.now)) result
         (reading.content_at (reading.value_at levels) (Kind code) text.now) }
 {
@@ -289,11 +284,7 @@ fn pairs(
 
 /// Two values with an equals sign between them, and the bytes after them.
 #[cycle(value)]
-fn value_pair(
-    alloc: Global,
-    levels: u32,
-    text: &[u8],
-) -> Result<((Value, Value), &[u8]), ReadError>
+fn value_pair(alloc: Global, levels: u32, text: &[u8]) -> Result<((Value, Value), &[u8]), ReadError>
     ensures { ReaderAnswers (λ x. (x.0, x.1.now)) result
         (reading.joined_at (reading.value_at levels) equals (reading.value_at levels) text.now) }
 {
