@@ -1,7 +1,6 @@
 -- The text of a capture: a line for each message when its last byte comes, and what the end adds.
-use Rattle.std.specs.Prelude.{ℕ, zero, suc, ◌+◌, Bool, true, false, List, [], ◌∷◌, ◌++◌, length, codes, Option, Some, None, ◌==◌, if◌then◌else◌}
+use Rattle.std.specs.Prelude.{ℕ, zero, suc, ◌+◌, Bool, true, false, List, [], ◌∷◌, ◌++◌, length, codes, Option, Some, None, Result, Ok, Err, ◌==◌, if◌then◌else◌}
 use Rattle.std.specs.Fmt.{decimal}
-use Rattle.std.specs.Prelude.{Result, Ok, Err}
 use Rattle.ig_lines.specs.Arguments.{space}
 use Rattle.ig_capture.specs.Records.{Piece, Records, records_of, sessions}
 use Rattle.ig_capture.specs.Talks.{Stream, Talk, fresh_talk, Step, byte_step}
@@ -63,13 +62,14 @@ abbrev pub seen_step : Seen → ℕ → Bool → Step → Seen
 seen_step seen session server (Ok x) = record { talks = with_talk seen.talks session x.0; text = seen.text ++ optional_line session server x.1; wrong = None }
 seen_step seen session server (Err place) = record seen { wrong = Some (InSession session server place) }
 
--- after the bytes of a side of a session
+-- after a byte of a side of a session, unless something is malformed already
+abbrev pub seen_byte : Seen → Option Wrong → ℕ → Bool → ℕ → Seen
+seen_byte seen (Some wrong) session server byte = seen
+seen_byte seen None session server byte = seen_step seen session server (byte_step (seen.talks session) server byte)
+
 abbrev pub seen_bytes : Seen → ℕ → Bool → List ℕ → Seen
 seen_bytes seen session server [] = seen
-seen_bytes seen session server (byte ∷ bytes) = seen_unless seen.wrong where
-  seen_unless : Option Wrong → Seen
-  seen_unless (Some wrong) = seen
-  seen_unless None = seen_bytes (seen_step seen session server (byte_step (seen.talks session) server byte)) session server bytes
+seen_bytes seen session server (byte ∷ bytes) = seen_bytes (seen_byte seen seen.wrong session server byte) session server bytes
 
 abbrev pub seen_pieces : Seen → List Piece → Seen
 seen_pieces seen [] = seen
@@ -81,12 +81,13 @@ seen_of capture = seen_pieces seen_nothing (records_of capture).pieces
 
 -- ---- the end
 
--- a frame that isn't whole
+-- the bytes of a frame that isn't whole, by their number
+abbrev pub cut_line : ℕ → Bool → ℕ → List ℕ
+cut_line session server zero = []
+cut_line session server (suc n) = message_line session server (codes "cut " ++ decimal (suc n))
+
 abbrev pub cut_text : ℕ → Bool → Stream → List ℕ
-cut_text session server stream = cut (length stream.bytes) where
-  cut : ℕ → List ℕ
-  cut zero = []
-  cut (suc n) = message_line session server (codes "cut " ++ decimal (suc n))
+cut_text session server stream = cut_line session server (length stream.bytes)
 
 abbrev pub cuts_of : ℕ → Talk → List ℕ
 cuts_of session talk = cut_text session false talk.from_client ++ cut_text session true talk.from_server

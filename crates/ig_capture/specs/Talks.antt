@@ -20,6 +20,7 @@ use Rattle.ig_wire.specs.Greets.{version_at, thin_client}
 use Rattle.ig_wire.specs.HelloReplies.{hello_reply_of}
 use Rattle.ig_wire.specs.Heads.{head_of}
 use Rattle.ig_wire.specs.Fields.{frame_place}
+use Rattle.ig_fields.specs.Format.{Fields}
 use Rattle.ig_fields.specs.Ask.{ResultForm}
 use Rattle.ig_fields.specs.ReadingFields.{message_of}
 use Rattle.ig_caches.specs.declared.call.Call.TheVariants.{Affinity}
@@ -160,12 +161,13 @@ text_form o =
 abbrev pub unread_text : List ℕ → List ℕ
 unread_text s = codes "unread " ++ decimal (length s)
 
+abbrev pub shown_text : (form : ResultForm (List ℕ)) → Result (Fields form.format) ℕ → Result (List ℕ) ℕ
+shown_text form (Ok x) = Ok (form.shown x)
+shown_text form (Err left) = Err left
+
 abbrev pub text_by : Option (ResultForm (List ℕ)) → List ℕ → Result (List ℕ) ℕ
 text_by None s = Ok (unread_text s)
-text_by (Some form) s = shown_text form (message_of form.format s) where
-  shown_text : (form : ResultForm (List ℕ)) → Result _ ℕ → Result (List ℕ) ℕ
-  shown_text form (Ok x) = Ok (form.shown x)
-  shown_text form (Err left) = Err left
+text_by (Some form) s = shown_text form (message_of form.format s)
 
 abbrev pub form_for : Option Operation → Option (ResultForm (List ℕ))
 form_for None = None
