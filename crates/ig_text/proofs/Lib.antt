@@ -8,3 +8,4 @@ pub mod LevelLemmas
 pub mod LoopLemmas
 pub mod WholeLemmas
 pub mod BoundLemmas
+pub mod ReaderLoopLemmas

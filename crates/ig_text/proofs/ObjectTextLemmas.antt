@@ -171,19 +171,19 @@ all_entries Fits [] xs e h k = tt
 all_entries Fits (id ∷ ids) [] e h k = tt
 all_entries Fits (id ∷ ids) (x ∷ xs) e h k = ((h.0, k.0), all_entries Fits ids xs (omega (arith, e)) h.1 k.1)
 
-length_entries : {X : Type 0} (ids : List ℤ) (xs : List X) → length ids ≡ length xs → length (entries ids xs) ≡ length xs
+pub length_entries : {X : Type 0} (ids : List ℤ) (xs : List X) → length ids ≡ length xs → length (entries ids xs) ≡ length xs
 length_entries [] [] e = refl
 length_entries [] (x ∷ xs) e = absurd (omega (arith, e))
 length_entries (id ∷ ids) [] e = absurd (omega (arith, e))
 length_entries (id ∷ ids) (x ∷ xs) e = ap suc (length_entries ids xs (omega (arith, e)))
 
-ids_entries : {X : Type 0} (ids : List ℤ) (xs : List X) → length ids ≡ length xs → map id_of (entries ids xs) ≡ ids
+pub ids_entries : {X : Type 0} (ids : List ℤ) (xs : List X) → length ids ≡ length xs → map id_of (entries ids xs) ≡ ids
 ids_entries [] [] e = refl
 ids_entries [] (x ∷ xs) e = absurd (omega (arith, e))
 ids_entries (id ∷ ids) [] e = absurd (omega (arith, e))
 ids_entries (id ∷ ids) (x ∷ xs) e = ap (λ (l : List ℤ). id ∷ l) (ids_entries ids xs (omega (arith, e)))
 
-fields_entries : {X : Type 0} (ids : List ℤ) (xs : List X) → length ids ≡ length xs → map field_of (entries ids xs) ≡ xs
+pub fields_entries : {X : Type 0} (ids : List ℤ) (xs : List X) → length ids ≡ length xs → map field_of (entries ids xs) ≡ xs
 fields_entries [] [] e = refl
 fields_entries [] (x ∷ xs) e = absurd (omega (arith, e))
 fields_entries (id ∷ ids) [] e = absurd (omega (arith, e))

@@ -262,7 +262,7 @@ some_takes {A} Fits T R close k p s xs rest e =
 
 any_takes : {A : Type 0} (Fits : A → Type 0) (T : A → List ℕ) (R : List ℕ → Read A) (close : ℕ) → Closes close → Reads Fits T Ends R →
     (s : List ℕ) (xs : List A) (rest : List ℕ) → any_at R close s ≡ Ok (xs, rest) → Takes (AllByRecursion Fits) (items_text close T) s xs rest
-any_takes Fits T R close k p [] xs rest e = absurd cc
+any_takes Fits T R close k p [] xs rest e = some_takes Fits T R close k p [] xs rest e
 any_takes {A} Fits T R close k p (b ∷ s) xs rest e =
     elim (cases_eq b close) [
       | inl same ↦

@@ -162,7 +162,7 @@ some_at one close s = do
   Ok (x.0 ∷ xs.0, xs.1)
 
 abbrev pub any_at : {A : Type 0} → (List ℕ → Read A) → ℕ → List ℕ → Read (List A)
-any_at one close [] = Err 0
+any_at one close [] = some_at one close []
 any_at one close (b ∷ s) = if b == close then Ok ([], s) else some_at one close (b ∷ s)
 
 abbrev pub items_at : {A : Type 0} → (List ℕ → Read A) → ℕ → List ℕ → Read (List A)

@@ -150,7 +150,8 @@ fn until_quote(alloc: Global, text: &[u8]) -> Result<(Vec<u8>, &[u8]), ReadError
 {
     let mut bytes = Vec::new(alloc);
     let mut rest = text;
-    for _ in 0..text.len() {
+    let most = text.len();
+    for _ in 0..most {
         if let Some(behind) = after(b'"', rest) {
             return Ok((bytes, behind));
         }
@@ -251,7 +252,8 @@ pub fn items<T: ReadPart>(
     }
     let (first, mut rest) = T::read(alloc, text)?;
     read.push(first)?;
-    for _ in 0..rest.len() {
+    let most = rest.len();
+    for _ in 0..most {
         if let Some(behind) = after(close, rest) {
             return counted(read, text.len(), behind);
         }

@@ -241,7 +241,8 @@ fn values(
     }
     let (first, mut rest) = value(alloc, levels, text)?;
     read.push(first)?;
-    for _ in 0..rest.len() {
+    let most = rest.len();
+    for _ in 0..most {
         if let Some(behind) = after(close, rest) {
             return counted(read, text.len(), behind);
         }
@@ -270,7 +271,8 @@ fn pairs(
     }
     let (first, mut rest) = value_pair(alloc, levels, text)?;
     read.push(first)?;
-    for _ in 0..rest.len() {
+    let most = rest.len();
+    for _ in 0..most {
         if let Some(behind) = after(b']', rest) {
             return counted(read, text.len(), behind);
         }
@@ -340,7 +342,8 @@ fn entries(
     let (id, field, mut rest) = entry(alloc, levels, text)?;
     ids.push(id)?;
     fields.push(field)?;
-    for _ in 0..rest.len() {
+    let most = rest.len();
+    for _ in 0..most {
         if let Some(behind) = after(b'}', rest) {
             let (fields, rest) = counted(fields, text.len(), behind)?;
             return Ok((Items::new(ids), fields, rest));
