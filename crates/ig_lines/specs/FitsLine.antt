@@ -3,18 +3,13 @@
 use Rattle.std.specs.Prelude.{◌≡◌, ℕ, ℤ, pos, ◌<◌, ◌≤◌, true, false, List, [], ◌∷◌, length, int_le}
 use Rattle.std.specs.List.{AllByRecursion}
 use Rattle.ig_value.specs.declared.value.Value.{Value}
-use Rattle.ig_value.specs.Limits.{IsLimitedText, IfThere, Fits}
+use Rattle.ig_value.specs.Limits.{IsLimitedText, Fits}
 use Rattle.ig_value.specs.Part.{i32, i64}
 use Rattle.ig_value.specs.Spells.{IsInRange}
-use Rattle.ig_types.specs.declared.meta.FieldMeta.{FieldMeta}
-use Rattle.ig_types.specs.declared.meta.Literal.{Literal}
-use Rattle.ig_types.specs.declared.meta.SchemaMeta.{SchemaMeta}
-use Rattle.ig_types.specs.declared.meta.TypeMeta.{TypeMeta}
 use Rattle.ig_fields.specs.ReadingFields.{is_null}
 use Rattle.ig_text.specs.ReadText.{begins_with}
-use Rattle.ig_text.specs.TextLaws.{AreItems}
+use Rattle.ig_text.specs.FitsDescription.{FitsDescription}
 use Rattle.ig_lines.specs.Arguments.{Argument, nothing, cache, item, pair, small, page, cursor, type_id, name, quoted_text, description, both, listed, Held, Cache, numbered, named, is_graphic, number_sign}
-use Rattle.ig_lines.specs.DescriptionText.{is_in_order}
 
 -- a value that isn't null
 pub record IsPresent (v : Value) : Type 0 where
@@ -30,26 +25,6 @@ pub record IsName (bytes : List ℕ) : Type 0 where
 abbrev pub FitsCache : Cache → Type 0
 FitsCache (numbered id) = IsInRange i32 id
 FitsCache (named bytes) = IsName bytes
-
--- ---- descriptions
-
-abbrev pub FitsField : FieldMeta → Type 0
-FitsField f = IsLimitedText f.name × (IsInRange i32 f.kind × IsInRange i32 f.id)
-
-abbrev pub FitsLiteral : Literal → Type 0
-FitsLiteral l = IsLimitedText l.name × IsInRange i32 l.ordinal
-
-abbrev pub FitsSchema : SchemaMeta → Type 0
-FitsSchema s = IsInRange i32 s.id × AreItems (IsInRange i32) s.ids
-
-pub record FitsDescription (m : TypeMeta) : Type 0 where
-  pub type : IsInRange i32 m.type_id
-  pub name : IsLimitedText m.name
-  pub affinity : IfThere IsLimitedText m.affinity
-  pub fields : AreItems FitsField m.fields
-  pub literals : AreItems FitsLiteral m.literals
-  pub schemas : AreItems FitsSchema m.schemas
-  pub ordered : is_in_order m ≡ true
 
 -- ---- arguments
 
