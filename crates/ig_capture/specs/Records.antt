@@ -13,7 +13,7 @@ magic = 73 ∷ 71 ∷ 67 ∷ 49 ∷ []
 abbrev pub sessions : ℕ
 sessions = 1024
 
--- a record has at least one byte and at most so many
+-- the most bytes of a record; it has at least one
 abbrev pub most_bytes : ℕ
 most_bytes = 65536
 

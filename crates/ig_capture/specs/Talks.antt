@@ -33,7 +33,7 @@ use Rattle.ig_deals.specs.Asks.{id_in, operation_in, request_in}
 use Rattle.ig_deals.specs.Faults.{refusal_of}
 use Rattle.ig_text.specs.Tokens.{quoted, scalar_text, uuid_text}
 use Rattle.ig_lines.specs.declared.line.LineAsk.{LineAsk}
-use Rattle.ig_lines.specs.declared.line.LineAsk.TheVariants as line
+use Rattle.ig_lines.specs.declared.line.LineAsk.TheVariants as asks
 use Rattle.ig_lines.specs.Arguments.{space}
 use Rattle.ig_lines.specs.LineText.{AskText}
 use Rattle.ig_lines.specs.ShownText.{full_stop, ShownText, FaultText, MapText}
@@ -49,7 +49,7 @@ pub record Unanswered : Type 0 where
 pub data Phase : Type 0 where
   Fresh : Phase
   Asked : Version → Phase
-  Open : Version → Phase
+  Talking : Version → Phase
   Closed : Phase
 
 -- the bytes of a stream that aren't a whole frame yet, and the place in the stream where they begin
@@ -96,8 +96,8 @@ hello_step talk place body =
 
 -- a request for the pairs of caches is the word `parts`
 abbrev pub line_ask : Request → LineAsk
-line_ask (Run (Affinity caches)) = line.Parts caches
-line_ask request = line.Ask request
+line_ask (Run (Affinity caches)) = asks.Parts caches
+line_ask request = asks.Ask request
 
 -- what is asked, or the status that it is refused with
 abbrev pub asked_text : Result Request AskFault → List ℕ
@@ -116,7 +116,7 @@ request_step talk v body =
 
 abbrev pub client_message : Talk → Phase → ℕ → List ℕ → Step
 client_message talk Fresh place body = hello_step talk place body
-client_message talk (Open v) place body = request_step talk v body
+client_message talk (Talking v) place body = request_step talk v body
 client_message talk _ place body = Err place
 
 -- ---- the server's messages
@@ -127,7 +127,7 @@ accepted_text (Accepted (Some node)) = codes "ok " ++ uuid_text node
 accepted_text (Refused highest text n) = codes "refused " ++ (version_text highest ++ space ∷ quoted text)
 
 abbrev pub phase_after : Version → HelloReply → Phase
-phase_after v (Accepted node) = Open v
+phase_after v (Accepted node) = Talking v
 phase_after v (Refused highest text n) = Closed
 
 abbrev pub greeted : Talk → Version → ℕ → List ℕ → Result HelloReply ℕ → Step
@@ -194,7 +194,7 @@ reply_after talk place body (Err left) = Err (place + frame_place body left)
 
 abbrev pub server_message : Talk → Phase → ℕ → List ℕ → Step
 server_message talk (Asked v) place body = greeting_step talk v place body
-server_message talk (Open v) place body = reply_after talk place body (head_of v body)
+server_message talk (Talking v) place body = reply_after talk place body (head_of v body)
 server_message talk _ place body = Err place
 
 -- ---- bytes
@@ -205,7 +205,7 @@ least_from_client Fresh = client.first
 least_from_client _ = client.later
 
 abbrev pub least_from_server : Phase → ℕ
-least_from_server (Open v) = (server_side v).later
+least_from_server (Talking v) = (server_side v).later
 least_from_server Closed = server.later
 least_from_server _ = server.first
 

@@ -20,10 +20,11 @@ use Rattle.ig_text.proofs.ReadsLemmas.{Takes, Reads, Anything, bind_ok, done, ok
 use Rattle.ig_text.proofs.NumberLemmas.{natural_reads}
 use Rattle.ig_text.proofs.TokenLemmas.{begun, begins, scalar_reads, quoted_reads}
 use Rattle.ig_text.proofs.LevelLemmas.{read_is_text, text_is_read}
-use Rattle.ig_lines.specs.Arguments.{space, number_sign, Argument, nothing, cache, item, pair, small, page, cursor, type_id, name, quoted_text, description, both, listed, Held, Cache, numbered, named, numbered_text, cache_text, is_graphic, graphic_len, name_of, cache_at, pair_text, item_at, pair_of, pair_at, up_to_at, page_at, name_at, argument_text, spaced_at, to_end_at, argument_at}
-use Rattle.ig_lines.specs.DescriptionText.{description_text, adjacent_at, description_at}
-use Rattle.ig_lines.specs.FitsLine.{IsPresent, IsName, FitsCache, FitsDescription, FitsArgument}
-use Rattle.ig_lines.proofs.DescriptionLemmas.{adjacent_reads, description_reads}
+use Rattle.ig_lines.specs.Arguments.{space, number_sign, Argument, nothing, cache, item, pair, small, page, cursor, type_id, name, quoted_text, description, both, listed, Held, Mention, numbered, named, numbered_text, cache_text, is_graphic, graphic_len, name_of, cache_at, pair_text, item_at, pair_of, pair_at, up_to_at, page_at, name_at, argument_text, spaced_at, to_end_at, argument_at}
+use Rattle.ig_text.specs.DescriptionText.{description_text, adjacent_at, description_at}
+use Rattle.ig_text.specs.FitsDescription.{FitsDescription}
+use Rattle.ig_lines.specs.FitsLine.{IsPresent, IsName, FitsCache, FitsArgument}
+use Rattle.ig_text.proofs.DescriptionLemmas.{adjacent_reads, description_reads}
 
 -- ---- what follows an argument: nothing, or a space
 
@@ -99,17 +100,17 @@ graphic_length [] (b ∷ rest) h f = cond-false (is_graphic b) (1 + prefix_len i
 graphic_length (b ∷ bytes) rest h f =
     cond-true (is_graphic b) (1 + prefix_len is_graphic (bytes ++ rest)) 0 h.0 ∙ omega (arith, graphic_length bytes rest h.1 f)
 
-name_takes : (n : ℕ) (s : List ℕ) (c : Cache) (rest : List ℕ) → AreGraphic (take n s) → begins_with (number_sign ∷ []) s ≡ false → n ≤ length s → name_of n s ≡ Ok (c, rest) → Takes FitsCache cache_text s c rest
+name_takes : (n : ℕ) (s : List ℕ) (c : Mention) (rest : List ℕ) → AreGraphic (take n s) → begins_with (number_sign ∷ []) s ≡ false → n ≤ length s → name_of n s ≡ Ok (c, rest) → Takes FitsCache cache_text s c rest
 name_takes zero s c rest graphic other le e = absurd cc
 name_takes (suc n) [] c rest graphic other le e = absurd (omega (arith, le))
 name_takes (suc n) (b ∷ s) c rest graphic other le e =
     let bytes : List ℕ = take (suc n) (b ∷ s) in
-    let made : Cache × List ℕ = (named bytes, drop (suc n) (b ∷ s)) in
+    let made : Mention × List ℕ = (named bytes, drop (suc n) (b ∷ s)) in
     let all : Takes FitsCache cache_text (b ∷ s) made.0 made.1 = record {
       fits = record { some = omega arith; graphic = graphic; no_number = other };
       whole = sym (take-append-drop (suc n) (b ∷ s));
     } in
-    subst (λ (z : Cache × List ℕ). Takes FitsCache cache_text (b ∷ s) z.0 z.1) (ok_is made (c, rest) e) all
+    subst (λ (z : Mention × List ℕ). Takes FitsCache cache_text (b ∷ s) z.0 z.1) (ok_is made (c, rest) e) all
 
 within_one : (t : Bool) (n m : ℕ) → n ≤ m → cond t (1 + n) 0 ≤ suc m
 within_one true n m le = omega (arith, le)
@@ -119,23 +120,23 @@ graphic_within : (s : List ℕ) → graphic_len s ≤ length s
 graphic_within [] = omega arith
 graphic_within (b ∷ s) = within_one (is_graphic b) (prefix_len is_graphic s) (length s) (graphic_within s)
 
-cache_case : (s : List ℕ) (c : Cache) (rest : List ℕ) (b : Bool) → begins_with (number_sign ∷ []) s ≡ b →
+cache_case : (s : List ℕ) (c : Mention) (rest : List ℕ) (b : Bool) → begins_with (number_sign ∷ []) s ≡ b →
     cond b (mapped_read numbered (scalar_at i32 (drop 1 s))) (name_of (graphic_len s) s) ≡ Ok (c, rest) → Takes FitsCache cache_text s c rest
 cache_case s c rest true is e =
     let a = bind_ok (scalar_at i32 (drop 1 s)) (λ x. Ok (numbered x.0, x.1)) (c, rest) e in
     let t = (scalar_reads i32).takes (drop 1 s) a.0.0 a.0.1 a.1 in
-    let made : Cache × List ℕ = (numbered a.0.0, a.0.1) in
+    let made : Mention × List ℕ = (numbered a.0.0, a.0.1) in
     let all : Takes FitsCache cache_text s made.0 made.1 = record {
       fits = t.fits;
       whole = begun (number_sign ∷ []) s is ∙ ap (λ (l : List ℕ). number_sign ∷ l) t.whole;
     } in
-    subst (λ (z : Cache × List ℕ). Takes FitsCache cache_text s z.0 z.1) (ok_is made (c, rest) a.2) all
+    subst (λ (z : Mention × List ℕ). Takes FitsCache cache_text s z.0 z.1) (ok_is made (c, rest) a.2) all
 cache_case s c rest false is e = name_takes (graphic_len s) s c rest (front_graphic s) is (graphic_within s) e
 
 not_begun : (b : ℕ) (bytes rest : List ℕ) → begins_with (number_sign ∷ []) (b ∷ bytes) ≡ false → begins_with (number_sign ∷ []) (b ∷ (bytes ++ rest)) ≡ false
 not_begun b bytes rest e = e
 
-cache_again : (c : Cache) (rest : List ℕ) → FitsCache c → Spaced rest → cache_at (cache_text c ++ rest) ≡ Ok (c, rest)
+cache_again : (c : Mention) (rest : List ℕ) → FitsCache c → Spaced rest → cache_at (cache_text c ++ rest) ≡ Ok (c, rest)
 cache_again (numbered id) rest fits f = ap (mapped_read numbered) ((scalar_reads i32).again id rest fits (spaced_ends rest f))
 cache_again (named []) rest fits f = absurd (omega (arith, fits.some))
 cache_again (named (b ∷ bytes)) rest fits f =
@@ -265,7 +266,7 @@ single_listable (both a b) is = absurd is
 single_listable (listed a) is = absurd is
 
 -- what an argument's text begins with, or what follows it
-pub argument_spaced : (a : Argument) → IsProper a → (x : Held Cache a) (rest : List ℕ) → Follows a rest → Spaced (argument_text cache_text a x ++ rest)
+pub argument_spaced : (a : Argument) → IsProper a → (x : Held Mention a) (rest : List ℕ) → Follows a rest → Spaced (argument_text cache_text a x ++ rest)
 argument_spaced nothing is x rest f = f
 argument_spaced (both a b) is x rest f =
     let l = single_listable a is.0 in

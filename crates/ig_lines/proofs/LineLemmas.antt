@@ -15,10 +15,10 @@ use Rattle.ig_text.specs.ReadText.{Read, ◌>>=◌, mapped_read, mark_at, joined
 use Rattle.ig_text.proofs.ReadsLemmas.{Takes, Reads, bind_ok, done, ok_is, mark_taken, mark_again}
 use Rattle.ig_lines.specs.declared.line.Line.{Line}
 use Rattle.ig_lines.specs.declared.line.LineAsk.{LineAsk}
-use Rattle.ig_lines.specs.declared.line.LineAsk.TheVariants as line
+use Rattle.ig_lines.specs.declared.line.LineAsk.TheVariants as asks
 use Rattle.ig_lines.specs.declared.word.Word.{Word}
 use Rattle.ig_lines.specs.declared.word.Word.TheVariants as word
-use Rattle.ig_lines.specs.Arguments.{space, Argument, nothing, cache, item, pair, small, page, cursor, type_id, name, quoted_text, description, both, listed, Held, Cache, cache_text, numbered_text, up_to_at, argument_text, argument_at, by_id}
+use Rattle.ig_lines.specs.Arguments.{space, Argument, nothing, cache, item, pair, small, page, cursor, type_id, name, quoted_text, description, both, listed, Held, Mention, cache_text, numbered_text, up_to_at, argument_text, argument_at, by_id}
 use Rattle.ig_lines.specs.Commands.{Command, run, ask_with, call_command, command_of}
 use Rattle.ig_lines.specs.FitsLine.{FitsArgument}
 use Rattle.ig_lines.specs.LineText.{command_text, optional_command_text, AskText, LineOf, line_with, IsLineText, IsTextResult, by_number, FitsCommand}
@@ -114,7 +114,7 @@ proper _ = tt
 
 -- the command of which this is the text, and what it asks
 record IsCommandText (s rest : List ℕ) (ask : LineAsk) : Type 0 where
-  command : Command Cache
+  command : Command Mention
   fits : FitsArgument (shape command.0) command.1
   same : ask ≡ ask_with command.0 (by_id (shape command.0) command.1)
   whole : s ≡ command_text cache_text command ++ rest
@@ -149,7 +149,7 @@ follows_end name = tt
 follows_end quoted_text = tt
 follows_end description = tt
 
-ask_again : (w : Word) (x : Held Cache (shape w)) → FitsArgument (shape w) x → ask_at (text_of w ++ argument_text cache_text (shape w) x) ≡ Ok (ask_with w (by_id (shape w) x), [])
+ask_again : (w : Word) (x : Held Mention (shape w)) → FitsArgument (shape w) x → ask_at (text_of w ++ argument_text cache_text (shape w) x) ≡ Ok (ask_with w (by_id (shape w) x), [])
 ask_again w x fits =
     let a : Argument = shape w in
     let text : List ℕ = argument_text cache_text a x in
@@ -184,7 +184,7 @@ line_is_text s line e =
     } in
     subst (λ (z : Line × List ℕ). z.1 ≡ [] → IsLineText s z.0) (ok_is (line_made both) end same) all refl
 
-text_again : (lane : ℕ) (c : Command Cache) → lane ≤ 15 → FitsArgument (shape c.0) c.1 → line_at (decimal lane ++ space ∷ command_text cache_text c) ≡ Ok (line_with lane c, [])
+text_again : (lane : ℕ) (c : Command Mention) → lane ≤ 15 → FitsArgument (shape c.0) c.1 → line_at (decimal lane ++ space ∷ command_text cache_text c) ≡ Ok (line_with lane c, [])
 text_again lane c le fits =
     let text : List ℕ = command_text cache_text c in
     rw ((up_to_reads 15 (omega arith)).again lane (space ∷ text) le refl, mark_again space text, ask_again c.0 c.1 fits) refl
@@ -238,11 +238,11 @@ call_back (Affinity caches) c e = absurd cc
 call_back call c e = back_from _ c (run call) e refl
 
 ask_back : (ask : LineAsk) (c : Command ℤ) → command_of ask ≡ Some c → ask_with c.0 c.1 ≡ ask
-ask_back (line.Ask (request.Run call)) c e = call_back call c e
-ask_back (line.Ask (request.Scan cache page)) c e = back_from _ c _ e refl
-ask_back (line.Ask (request.NextPage cursor)) c e = back_from _ c _ e refl
-ask_back (line.Ask (request.Close resource)) c e = back_from _ c _ e refl
-ask_back (line.Parts caches) c e = back_from _ c _ e refl
+ask_back (asks.Ask (request.Run call)) c e = call_back call c e
+ask_back (asks.Ask (request.Scan cache page)) c e = back_from _ c _ e refl
+ask_back (asks.Ask (request.NextPage cursor)) c e = back_from _ c _ e refl
+ask_back (asks.Ask (request.Close resource)) c e = back_from _ c _ e refl
+ask_back (asks.Parts caches) c e = back_from _ c _ e refl
 
 written_case : (l : Line) (o : Option (Command ℤ)) → command_of l.ask ≡ o → l.lane ≤ 15 → FitsCommand o → IsLineText (decimal l.lane ++ space ∷ optional_command_text o) l
 written_case l None is le fits = absurd fits

@@ -12,7 +12,7 @@ use Rattle.ig_caches.specs.declared.call.Pair.{Pair}
 use Rattle.ig_text.specs.ReadText.{Read, ◌>>=◌, mapped_read, checked_read, mark_at, begins_with, joined_at, natural_at, scalar_at, quoted_at, text_at}
 use Rattle.ig_text.specs.TextOf.{TextOf}
 use Rattle.ig_text.specs.Tokens.{equals, quoted, scalar_text}
-use Rattle.ig_lines.specs.DescriptionText.{description_text, adjacent_at, description_at}
+use Rattle.ig_text.specs.DescriptionText.{description_text, adjacent_at, description_at}
 
 abbrev pub space : ℕ
 space = 32
@@ -45,19 +45,19 @@ Held C (listed a) = List (Held C a)
 -- ---- caches
 
 -- a cache in a text: its identifier after a number sign, or its name
-pub data Cache : Type 0 where
-  numbered : ℤ → Cache
-  named : List ℕ → Cache
+pub data Mention : Type 0 where
+  numbered : ℤ → Mention
+  named : List ℕ → Mention
 
 -- the identifier of a cache is the hash of its name
-abbrev pub id_of : Cache → ℤ
+abbrev pub id_of : Mention → ℤ
 id_of (numbered id) = id
 id_of (named bytes) = cast_signed w32 (Java (units bytes))
 
 abbrev pub numbered_text : ℤ → List ℕ
 numbered_text id = number_sign ∷ scalar_text i32 id
 
-abbrev pub cache_text : Cache → List ℕ
+abbrev pub cache_text : Mention → List ℕ
 cache_text (numbered id) = numbered_text id
 cache_text (named bytes) = bytes
 
@@ -69,11 +69,11 @@ abbrev pub graphic_len : List ℕ → ℕ
 graphic_len s = prefix_len is_graphic s
 
 -- a name of n bytes: it has at least one
-abbrev pub name_of : ℕ → List ℕ → Read Cache
+abbrev pub name_of : ℕ → List ℕ → Read Mention
 name_of zero s = Err (length s)
 name_of (suc n) s = Ok (named (take (suc n) s), drop (suc n) s)
 
-abbrev pub cache_at : List ℕ → Read Cache
+abbrev pub cache_at : List ℕ → Read Mention
 cache_at s =
     if begins_with (number_sign ∷ []) s then mapped_read numbered (scalar_at i32 (drop 1 s)) else name_of (graphic_len s) s
 
@@ -133,7 +133,7 @@ to_end_at one (suc n) (b ∷ s) = do
   xs ← to_end_at one n x.1
   Ok (x.0 ∷ xs.0, xs.1)
 
-abbrev pub argument_at : (a : Argument) → List ℕ → Read (Held Cache a)
+abbrev pub argument_at : (a : Argument) → List ℕ → Read (Held Mention a)
 argument_at nothing s = Ok (tt, s)
 argument_at cache s = spaced_at cache_at s
 argument_at item s = spaced_at item_at s
@@ -149,7 +149,7 @@ argument_at (both a b) s = adjacent_at (argument_at a) (argument_at b) s
 argument_at (listed a) s = to_end_at (argument_at a) (length s) s
 
 -- the same arguments, with each cache by its identifier
-abbrev pub by_id : (a : Argument) → Held Cache a → Held ℤ a
+abbrev pub by_id : (a : Argument) → Held Mention a → Held ℤ a
 by_id cache x = id_of x
 by_id (both a b) x = (by_id a x.0, by_id b x.1)
 by_id (listed a) xs = map (by_id a) xs

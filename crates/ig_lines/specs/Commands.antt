@@ -4,7 +4,7 @@ use Rattle.ig_caches.specs.declared.call.Call.{Call}
 use Rattle.ig_caches.specs.declared.call.Call.TheVariants.{Get, GetAndRemove, ContainsKey, ClearKey, RemoveKey, Put, PutIfAbsent, GetAndPut, GetAndReplace, GetAndPutIfAbsent, Replace, ReplaceIfEquals, RemoveIfEquals, GetAll, ContainsKeys, ClearKeys, RemoveKeys, PutAll, Clear, RemoveAll, Scan, Size, Names, Create, GetOrCreate, Destroy, TypeName, SetTypeName, TypeOf, PutType, Affinity}
 use Rattle.ig_caches.specs.declared.request.Request.TheVariants as request
 use Rattle.ig_lines.specs.declared.line.LineAsk.{LineAsk}
-use Rattle.ig_lines.specs.declared.line.LineAsk.TheVariants as line
+use Rattle.ig_lines.specs.declared.line.LineAsk.TheVariants as asks
 use Rattle.ig_lines.specs.declared.word.Word.{Word}
 use Rattle.ig_lines.specs.declared.word.Word.TheVariants as word
 use Rattle.ig_lines.specs.Arguments.{Held}
@@ -15,7 +15,7 @@ abbrev pub Command : Type 0 → Type 0
 Command C = (w : Word) × Held C (shape w)
 
 abbrev pub run : Call → LineAsk
-run call = line.Ask (request.Run call)
+run call = asks.Ask (request.Run call)
 
 abbrev pub ask_with : (w : Word) → Held ℤ (shape w) → LineAsk
 ask_with word.Get x = run (Get x.0 x.1)
@@ -43,14 +43,14 @@ ask_with word.Names x = run Names
 ask_with word.Create x = run (Create x)
 ask_with word.GetOrCreate x = run (GetOrCreate x)
 ask_with word.Destroy x = run (Destroy x)
-ask_with word.Scan x = line.Ask (request.Scan x.0 x.1)
-ask_with word.Next x = line.Ask (request.NextPage x)
-ask_with word.Close x = line.Ask (request.Close x)
+ask_with word.Scan x = asks.Ask (request.Scan x.0 x.1)
+ask_with word.Next x = asks.Ask (request.NextPage x)
+ask_with word.Close x = asks.Ask (request.Close x)
 ask_with word.TypeName x = run (TypeName x.0 x.1)
 ask_with word.Type x = run (TypeOf x)
 ask_with word.SetTypeName x = run (SetTypeName x.0 x.1.0 x.1.1)
 ask_with word.PutType x = run (PutType x)
-ask_with word.Parts x = line.Parts x
+ask_with word.Parts x = asks.Parts x
 
 -- the command of a call; a scan is asked for by pages, and pairs of caches by the word `parts`
 abbrev pub call_command : Call → Option (Command ℤ)
@@ -87,8 +87,8 @@ call_command (PutType meta) = Some (word.PutType, meta)
 call_command (Affinity caches) = None
 
 abbrev pub command_of : LineAsk → Option (Command ℤ)
-command_of (line.Ask (request.Run call)) = call_command call
-command_of (line.Ask (request.Scan cache page)) = Some (word.Scan, (cache, page))
-command_of (line.Ask (request.NextPage cursor)) = Some (word.Next, cursor)
-command_of (line.Ask (request.Close resource)) = Some (word.Close, resource)
-command_of (line.Parts caches) = Some (word.Parts, caches)
+command_of (asks.Ask (request.Run call)) = call_command call
+command_of (asks.Ask (request.Scan cache page)) = Some (word.Scan, (cache, page))
+command_of (asks.Ask (request.NextPage cursor)) = Some (word.Next, cursor)
+command_of (asks.Ask (request.Close resource)) = Some (word.Close, resource)
+command_of (asks.Parts caches) = Some (word.Parts, caches)

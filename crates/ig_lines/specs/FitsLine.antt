@@ -9,7 +9,7 @@ use Rattle.ig_value.specs.Spells.{IsInRange}
 use Rattle.ig_fields.specs.ReadingFields.{is_null}
 use Rattle.ig_text.specs.ReadText.{begins_with}
 use Rattle.ig_text.specs.FitsDescription.{FitsDescription}
-use Rattle.ig_lines.specs.Arguments.{Argument, nothing, cache, item, pair, small, page, cursor, type_id, name, quoted_text, description, both, listed, Held, Cache, numbered, named, is_graphic, number_sign}
+use Rattle.ig_lines.specs.Arguments.{Argument, nothing, cache, item, pair, small, page, cursor, type_id, name, quoted_text, description, both, listed, Held, Mention, numbered, named, is_graphic, number_sign}
 
 -- a value that isn't null
 pub record IsPresent (v : Value) : Type 0 where
@@ -22,13 +22,13 @@ pub record IsName (bytes : List ℕ) : Type 0 where
   pub graphic : AllByRecursion (λ b. is_graphic b ≡ true) bytes
   pub no_number : begins_with (number_sign ∷ []) bytes ≡ false
 
-abbrev pub FitsCache : Cache → Type 0
+abbrev pub FitsCache : Mention → Type 0
 FitsCache (numbered id) = IsInRange i32 id
 FitsCache (named bytes) = IsName bytes
 
 -- ---- arguments
 
-abbrev pub FitsArgument : (a : Argument) → Held Cache a → Type 0
+abbrev pub FitsArgument : (a : Argument) → Held Mention a → Type 0
 FitsArgument nothing x = Unit {0}
 FitsArgument cache x = FitsCache x
 FitsArgument item x = IsPresent x

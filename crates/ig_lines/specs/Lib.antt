@@ -1,4 +1,3 @@
-pub mod DescriptionText
 pub mod Arguments
 pub mod Words
 pub mod Commands

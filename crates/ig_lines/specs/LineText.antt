@@ -5,7 +5,7 @@ use Rattle.ig_text.specs.declared.fault.TextFault.{TextFault}
 use Rattle.ig_text.specs.declared.fault.TextFault.TheVariants as fault
 use Rattle.ig_lines.specs.declared.line.Line.{Line}
 use Rattle.ig_lines.specs.declared.line.LineAsk.{LineAsk}
-use Rattle.ig_lines.specs.Arguments.{Argument, nothing, cache, item, pair, small, page, cursor, type_id, name, quoted_text, description, both, listed, Held, Cache, numbered, space, numbered_text, cache_text, argument_text, by_id}
+use Rattle.ig_lines.specs.Arguments.{Argument, nothing, cache, item, pair, small, page, cursor, type_id, name, quoted_text, description, both, listed, Held, Mention, numbered, space, numbered_text, cache_text, argument_text, by_id}
 use Rattle.ig_lines.specs.Commands.{Command, ask_with, command_of}
 use Rattle.ig_lines.specs.FitsLine.{FitsArgument}
 use Rattle.ig_lines.specs.Words.{text_of, shape}
@@ -26,13 +26,13 @@ unfoldable pub LineOf : Line → List ℕ
 LineOf line = decimal line.lane ++ space ∷ AskText line.ask
 
 -- the line of a lane and a command
-abbrev pub line_with : ℕ → Command Cache → Line
+abbrev pub line_with : ℕ → Command Mention → Line
 line_with lane c = record { lane = lane; ask = ask_with c.0 (by_id (shape c.0) c.1) }
 
 -- A text of the line, which keeps to the limits: the same, or with any cache by a name that has its
 -- identifier.
 pub record IsLineText (s : List ℕ) (line : Line) : Type 0 where
-  pub command : Command Cache
+  pub command : Command Mention
   pub same : line ≡ line_with line.lane command
   pub lane : line.lane ≤ 15
   pub fits : FitsArgument (shape command.0) command.1
@@ -49,7 +49,7 @@ IsTextResult s (Ok line) = IsLineText s line
 IsTextResult s (Err e) = IsNoText s e
 
 -- the same arguments, with each identifier as it is written
-abbrev pub by_number : (a : Argument) → Held ℤ a → Held Cache a
+abbrev pub by_number : (a : Argument) → Held ℤ a → Held Mention a
 by_number cache x = numbered x
 by_number (both a b) x = (by_number a x.0, by_number b x.1)
 by_number (listed a) xs = map (by_number a) xs

@@ -15,7 +15,7 @@ use Rattle.ig_parts.specs.declared.map.PartMap.{PartMap}
 use Rattle.ig_text.specs.TextOf.{TextOf}
 use Rattle.ig_text.specs.Tokens.{quoted, scalar_text, truth_text}
 use Rattle.ig_lines.specs.Arguments.{space, pair_text}
-use Rattle.ig_lines.specs.DescriptionText.{description_text}
+use Rattle.ig_text.specs.DescriptionText.{description_text}
 
 abbrev pub full_stop : ℕ
 full_stop = 46

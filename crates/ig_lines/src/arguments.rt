@@ -5,9 +5,8 @@ ghost use Rattle.ig_value.specs.Part as scalar;
 ghost use Rattle.ig_text.specs.ReadText.{Read, mapped_read, scalar_at, quoted_at};
 ghost use Rattle.ig_text.specs.ReaderAnswers.{ReaderAnswers};
 ghost use Rattle.ig_lines.specs.Arguments as arguments;
-ghost use Rattle.ig_lines.specs.DescriptionText.{adjacent_at};
+ghost use Rattle.ig_text.specs.DescriptionText.{adjacent_at};
 
-use crate::description::description;
 use ig_base::{Items, Text, text_hash};
 use ig_caches::Pair;
 use ig_fields::is_null;
@@ -71,7 +70,7 @@ impl Argument for Cache {
     fn read(alloc: Global, text: &[u8]) -> Result<(i32, &[u8]), ReadError> {
         let (_, rest) = mark(b' ', text)?;
         if let Some(number) = rest.strip_prefix(b"#") {
-            return i32::read(alloc, number);
+            return <i32 as ReadPart>::read(alloc, number);
         }
         named_cache(rest)
     }
@@ -235,7 +234,7 @@ impl Argument for TypeMeta {
 
     fn read(alloc: Global, text: &[u8]) -> Result<(TypeMeta, &[u8]), ReadError> {
         let (_, rest) = mark(b' ', text)?;
-        description(alloc, rest)
+        <TypeMeta as ReadPart>::read(alloc, rest)
     }
 }
 

@@ -13,15 +13,14 @@
 
 mod arguments;
 mod asks;
-mod description;
 mod laws;
 mod line;
 mod put_arguments;
 mod put_ask;
-mod put_description;
 mod read_line;
 mod shown;
 mod word;
+mod words;
 
 pub use laws::one_line;
 pub use line::{Line, LineAsk};

@@ -72,12 +72,21 @@ pub(crate) fn put_smalls(numbers: &[u8], out: &mut Octets) -> Result<(), NoMemor
     Ok(())
 }
 
-impl PutText for Pair {
-    ghost text = { pair_text };
+/// Appends a key and its value, with an equals sign between them, after a space.
+fn put_pair(pair: &Pair, out: &mut Octets) -> Result<(), NoMemory>
+    ensures { OnOk result (out.new ≡ out.old ++ space ∷ pair_text pair.now) }
+{
+    put_spaced(&pair.key, out)?;
+    out.push(b'=')?;
+    pair.value.put(out)
+}
 
-    fn put(&self, out: &mut Octets) -> Result<(), NoMemory> {
-        self.key.put(out)?;
-        out.push(b'=')?;
-        self.value.put(out)
+/// Appends each pair.
+pub(crate) fn put_pairs(pairs: &[Pair], out: &mut Octets) -> Result<(), NoMemory>
+    ensures { OnOk result (out.new ≡ out.old ++ spaced pair_text pairs.now) }
+{
+    for pair in pairs {
+        put_pair(pair, out)?;
     }
+    Ok(())
 }

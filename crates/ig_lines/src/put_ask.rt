@@ -13,9 +13,10 @@ ghost use Rattle.ig_lines.specs.Words.{text_of as words_text};
 
 use crate::line::{Line, LineAsk};
 use crate::put_arguments::{
-    put_cache, put_caches, put_each, put_number, put_small, put_smalls, put_spaced,
+    put_cache, put_caches, put_each, put_number, put_pairs, put_small, put_smalls, put_spaced,
 };
-use crate::word::{Word, text_of};
+use crate::word::Word;
+use crate::words::text_of;
 use ig_base::{NoMemory, Octets};
 use ig_caches::{Call, Request};
 use ig_text::PutText;
@@ -127,7 +128,7 @@ fn put_call(call: &Call, out: &mut Octets) -> Result<(), NoMemory>
         ),
         Call::PutAll { cache, pairs } => {
             put_word(Word::PutAll, *cache, out)?;
-            put_each(pairs.as_slice(), out)
+            put_pairs(pairs.as_slice(), out)
         }
         Call::Clear { cache } => put_word(Word::Clear, *cache, out),
         Call::RemoveAll { cache } => put_word(Word::RemoveAll, *cache, out),

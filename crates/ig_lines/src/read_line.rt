@@ -8,7 +8,8 @@ ghost use Rattle.ig_lines.specs.ReadLine as reading;
 use crate::arguments::up_to;
 use crate::asks::ask_of_word;
 use crate::line::Line;
-use crate::word::{Word, word_of};
+use crate::word::Word;
+use crate::words::word_of;
 use ig_text::{ReadError, TextFault, mark};
 use std::alloc::Global;
 

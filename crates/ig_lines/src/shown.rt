@@ -1,12 +1,14 @@
 //! Writing what replies show.
 
 ghost use Rattle.std.specs.Prelude.{◌≡◌, ◌++◌, ◌∷◌, OnOk, OnErr};
+ghost use Rattle.ig_text.specs.Tokens.{quoted};
+ghost use Rattle.ig_lines.specs.Arguments.{pair_text};
 ghost use Rattle.ig_lines.specs.ShownText as texts;
 ghost use Rattle.ig_lines.specs.ShownText.{ShownText, FaultText, MapText, IsPrinted, IsShownOutcome};
 
-use crate::put_arguments::{put_each, put_number, put_spaced};
-use ig_base::{NoMemory, Octets};
-use ig_caches::{Outcome, Page, Shown};
+use crate::put_arguments::{put_each, put_number, put_pairs, put_spaced};
+use ig_base::{NoMemory, Octets, Text};
+use ig_caches::{Outcome, Page, Pair, Shown};
 use ig_parts::PartMap;
 use ig_text::PutText;
 use ig_types::TypeMeta;
@@ -67,7 +69,7 @@ fn put_outcome(outcome: &Outcome, out: &mut Octets) -> Result<(), NoMemory>
         Outcome::Yes(yes) => yes.put(out),
         Outcome::Pairs(pairs) => {
             out.append(b"pairs ")?;
-            put_counted(pairs.as_slice(), out)
+            put_rows(pairs.as_slice(), out)
         }
         Outcome::Count(count) => {
             out.append(b"count")?;
@@ -75,7 +77,7 @@ fn put_outcome(outcome: &Outcome, out: &mut Octets) -> Result<(), NoMemory>
         }
         Outcome::Names(names) => {
             out.append(b"names ")?;
-            put_counted(names.as_slice(), out)
+            put_names(names.as_slice(), out)
         }
         Outcome::Name(name) => {
             out.append(b"name")?;
@@ -87,12 +89,20 @@ fn put_outcome(outcome: &Outcome, out: &mut Octets) -> Result<(), NoMemory>
     }
 }
 
-/// Appends the number of items, and each of them after a space.
-fn put_counted<T: PutText>(items: &[T], out: &mut Octets) -> Result<(), NoMemory>
-    ensures { OnOk result (out.new ≡ out.old ++ texts.counted_text T.text items.now) }
+/// Appends the number of rows, and each of them after a space.
+fn put_rows(rows: &[Pair], out: &mut Octets) -> Result<(), NoMemory>
+    ensures { OnOk result (out.new ≡ out.old ++ texts.counted_text pair_text rows.now) }
 {
-    put_number(items.len(), out)?;
-    put_each(items, out)
+    put_number(rows.len(), out)?;
+    put_pairs(rows, out)
+}
+
+/// Appends the number of names, and each of them after a space.
+fn put_names(names: &[Text], out: &mut Octets) -> Result<(), NoMemory>
+    ensures { OnOk result (out.new ≡ out.old ++ texts.counted_text quoted names.now) }
+{
+    put_number(names.len(), out)?;
+    put_each(names, out)
 }
 
 /// Appends a description, or `none`.
@@ -112,7 +122,7 @@ fn put_page(page: &Page, out: &mut Octets) -> Result<(), NoMemory>
     out.append(b"page ")?;
     put_cursor(&page.cursor, out)?;
     out.push(b' ')?;
-    put_counted(page.rows.as_slice(), out)?;
+    put_rows(page.rows.as_slice(), out)?;
     if page.more {
         out.append(b" more")
     } else {

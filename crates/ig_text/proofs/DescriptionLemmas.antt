@@ -16,8 +16,8 @@ use Rattle.ig_text.proofs.ReadsLemmas.{Takes, Reads, Refuses, RefusesNone, bind_
 use Rattle.ig_text.proofs.TokenLemmas.{begun, begins, scalar_reads, quoted_reads}
 use Rattle.ig_text.proofs.RefusalLemmas.{Begins, bracket, brace, scalar_begins, quoted_begins, joined_begins, mapped_begins}
 use Rattle.ig_text.proofs.ObjectTextLemmas.{items_reads, closes_bracket, closes_brace, optional_reads}
-use Rattle.ig_lines.specs.DescriptionText.{slash, field_text, literal_text, schema_text, enum_text, braced, description_text, field_at, literal_at, ids_at, schema_at, enum_at, braced_at, adjacent_at, Lists, lists_at, Head, head_at, description_of, after_word, whole_at, is_in_order, description_at}
-use Rattle.ig_lines.specs.FitsLine.{FitsField, FitsLiteral, FitsSchema, FitsDescription}
+use Rattle.ig_text.specs.DescriptionText.{slash, field_text, literal_text, schema_text, enum_text, braced, description_text, field_at, literal_at, ids_at, schema_at, enum_at, braced_at, adjacent_at, Lists, lists_at, Head, head_at, description_of, after_word, whole_at, is_in_order, description_at}
+use Rattle.ig_text.specs.FitsDescription.{FitsField, FitsLiteral, FitsSchema, FitsDescription}
 
 -- ---- one after the other
 

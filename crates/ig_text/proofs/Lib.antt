@@ -9,3 +9,4 @@ pub mod LoopLemmas
 pub mod WholeLemmas
 pub mod BoundLemmas
 pub mod ReaderLoopLemmas
+pub mod DescriptionLemmas

@@ -5,3 +5,5 @@ pub mod ReadText
 pub mod TextLaws
 pub mod ReaderAnswers
 pub mod PairText
+pub mod DescriptionText
+pub mod FitsDescription

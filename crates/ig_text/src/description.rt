@@ -1,10 +1,12 @@
 //! Reading the text of a description of a type.
 
 ghost use Rattle.ig_text.specs.ReaderAnswers.{ReaderAnswers};
-ghost use Rattle.ig_lines.specs.DescriptionText as descriptions;
+ghost use Rattle.ig_text.specs.DescriptionText as descriptions;
 
+use crate::fault::ReadError;
+use crate::parts::{ReadPart, items};
+use crate::read::mark;
 use ig_base::{Items, Text};
-use ig_text::{ReadError, ReadPart, items, mark};
 use ig_types::{FieldMeta, Literal, SchemaMeta, TypeMeta};
 use std::alloc::Global;
 
@@ -67,7 +69,7 @@ fn braced<T: ReadPart>(alloc: Global, text: &[u8]) -> Result<(Items<T>, &[u8]), 
 }
 
 /// What stands before the lists of a description.
-struct Head {
+struct Front {
     type_id: i32,
     name: Text,
     affinity: Option<Text>,
@@ -75,7 +77,7 @@ struct Head {
 }
 
 /// What stands before the lists, and the bytes after it.
-fn head(alloc: Global, text: &[u8]) -> Result<(Head, &[u8]), ReadError>
+fn head(alloc: Global, text: &[u8]) -> Result<(Front, &[u8]), ReadError>
     ensures { ReaderAnswers (λ x. ((x.0.type_id, (x.0.name, (x.0.affinity, x.0.is_enum))), x.1.now))
         result (descriptions.head_at text.now) }
 {
@@ -86,25 +88,26 @@ fn head(alloc: Global, text: &[u8]) -> Result<(Head, &[u8]), ReadError>
     let (affinity, rest) = <Option<Text>>::read(alloc, rest)?;
     let (_, rest) = mark(b':', rest)?;
     let (is_enum, rest) = is_enum(rest)?;
-    let head = Head {
+    let front = Front {
         type_id,
         name,
         affinity,
         is_enum,
     };
-    Ok((head, rest))
+    Ok((front, rest))
 }
 
-/// A description in order, and the bytes after it.
-pub(crate) fn description(alloc: Global, text: &[u8]) -> Result<(TypeMeta, &[u8]), ReadError>
-    ensures { ReaderAnswers (λ x. (x.0, x.1.now)) result (descriptions.description_at text.now) }
-{
-    let left = text.len();
-    let (meta, rest) = any_description(alloc, text)?;
-    if !meta.is_in_order() {
-        return Err(ReadError::Bad { left });
+impl ReadPart for TypeMeta {
+    ghost reads = { descriptions.description_at };
+
+    fn read(alloc: Global, text: &[u8]) -> Result<(TypeMeta, &[u8]), ReadError> {
+        let left = text.len();
+        let (meta, rest) = any_description(alloc, text)?;
+        if !meta.is_in_order() {
+            return Err(ReadError::Bad { left });
+        }
+        Ok((meta, rest))
     }
-    Ok((meta, rest))
 }
 
 /// A description in any order, and the bytes after it.
@@ -114,15 +117,15 @@ fn any_description(alloc: Global, text: &[u8]) -> Result<(TypeMeta, &[u8]), Read
     let Some(rest) = text.strip_prefix(b"type:") else {
         return Err(ReadError::Bad { left: text.len() });
     };
-    let (head, rest) = head(alloc, rest)?;
+    let (front, rest) = head(alloc, rest)?;
     let (fields, rest) = braced::<FieldMeta>(alloc, rest)?;
     let (literals, rest) = braced::<Literal>(alloc, rest)?;
     let (schemas, rest) = braced::<SchemaMeta>(alloc, rest)?;
     let meta = TypeMeta {
-        type_id: head.type_id,
-        name: head.name,
-        affinity: head.affinity,
-        is_enum: head.is_enum,
+        type_id: front.type_id,
+        name: front.name,
+        affinity: front.affinity,
+        is_enum: front.is_enum,
         fields,
         literals,
         schemas,

@@ -1,4 +1,4 @@
-//! Values as text, and text as values.
+//! Values and descriptions of types as text, and text as these.
 //!
 //! ```text
 //! Map { kind: 1, pairs: [(Int(1), Str("a b"))] }        map:1[int:1=str:"a\x20b"]
@@ -9,10 +9,12 @@
 //! one from a list of bytes. That they agree is the contract of [`one_text`].
 #![tactic(auto)]
 
+mod description;
 mod fault;
 mod laws;
 mod parts;
 mod put;
+mod put_description;
 mod read;
 mod row;
 mod values;

@@ -1,10 +1,10 @@
 //! Writing the text of a description of a type.
 
 ghost use Rattle.std.specs.Prelude.{◌≡◌, ◌++◌, codes, OnOk};
-ghost use Rattle.ig_lines.specs.DescriptionText as descriptions;
+ghost use Rattle.ig_text.specs.DescriptionText as descriptions;
 
+use crate::put::{PutText, put_items};
 use ig_base::{NoMemory, Octets};
-use ig_text::{PutText, put_items};
 use ig_types::{FieldMeta, Literal, SchemaMeta, TypeMeta};
 
 impl PutText for FieldMeta {
