@@ -18,7 +18,7 @@ use Rattle.ig_text.specs.TextOf.{TextOf}
 use Rattle.ig_text.specs.Tokens.{equals, quoted, scalar_text}
 use Rattle.ig_text.proofs.ReadsLemmas.{Takes, Reads, Anything, bind_ok, done, ok_is, mapped_reads, checked_reads, marked_reads, mark_taken, mark_again, joined_reads}
 use Rattle.ig_text.proofs.NumberLemmas.{natural_reads}
-use Rattle.ig_text.proofs.TokenLemmas.{begun, begins, scalar_reads, quoted_reads}
+use Rattle.ig_text.proofs.TokenLemmas.{begun, scalar_reads, quoted_reads}
 use Rattle.ig_text.proofs.LevelLemmas.{read_is_text, text_is_read}
 use Rattle.ig_lines.specs.Arguments.{space, number_sign, Argument, nothing, cache, item, pair, small, page, cursor, type_id, name, quoted_text, description, both, listed, Held, Mention, numbered, named, numbered_text, cache_text, is_graphic, graphic_len, name_of, cache_at, pair_text, item_at, pair_of, pair_at, up_to_at, page_at, name_at, argument_text, spaced_at, to_end_at, argument_at}
 use Rattle.ig_text.specs.DescriptionText.{description_text, adjacent_at, description_at}

@@ -136,3 +136,9 @@ digit_room ds i x n whole lt item is before =
 
 pub digits_done : (ds : List ℕ) (i n whole : ℕ) → length ds ≤ i → digits_value_after 10 n (drop i ds) ≡ whole → n ≡ whole
 digits_done ds i n whole le before = ap (digits_value_after 10 n) (sym (drop_all i ds le)) ∙ before
+
+-- ---- marks
+
+pub mark_missing : (b : ℕ) (s : List ℕ) → IsNotBefore b s → mark_at b s ≡ Err (length s)
+mark_missing b [] other = refl
+mark_missing b (c ∷ s) other = rw (ne_eqb c b (λ same. other s (ap (λ (d : ℕ). d ∷ s) same))) refl
