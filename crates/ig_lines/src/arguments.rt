@@ -258,7 +258,8 @@ impl<F: Argument> Argument for Items<F> {
     fn read(alloc: Global, text: &[u8]) -> Result<(Items<F::Item>, &[u8]), ReadError> {
         let mut read = Vec::new(alloc);
         let mut rest = text;
-        for _ in 0..text.len() {
+        let most = text.len();
+        for _ in 0..most {
             if rest.is_empty() {
                 return Ok((Items::new(read), rest));
             }

@@ -147,7 +147,7 @@ pub(crate) fn ask_of_word(
         Word::Clear => call::<Cache, _>(alloc, text, |cache| Call::Clear { cache }),
         Word::RemoveAll => call::<Cache, _>(alloc, text, |cache| Call::RemoveAll { cache }),
         Word::Size => size(alloc, text),
-        Word::Names => call::<(), _>(alloc, text, |()| Call::Names),
+        Word::Names => call::<(), _>(alloc, text, |_| Call::Names),
         Word::Create => call::<Name, _>(alloc, text, |name| Call::Create { name }),
         Word::GetOrCreate => call::<Name, _>(alloc, text, |name| Call::GetOrCreate { name }),
         Word::Destroy => call::<Cache, _>(alloc, text, |cache| Call::Destroy { cache }),
