@@ -1,5 +1,5 @@
 -- The canonical form of a value has at most 24 bytes for each byte of its text.
-use Rattle.std.proofs.Common.{◌≡◌, ℕ, ℤ, zero, suc, pos, negsuc, ◌+◌, ◌*◌, ◌<◌, ◌≤◌, ◌^◌, Bool, true, false, cond, ltb, leb, List, [], ◌∷◌, ◌++◌, length, map, Option, Some, None, Ok, refl, sym, ap, ◌∙◌, arith, length-append}
+use Rattle.std.proofs.Common.{◌≡◌, ℕ, ℤ, zero, suc, pos, negsuc, ◌+◌, ◌*◌, ◌<◌, ◌≤◌, ◌^◌, Bool, true, false, cond, ltb, leb, List, [], ◌∷◌, ◌++◌, length, take, drop, map, Option, Some, None, Ok, refl, sym, ap, ◌∙◌, arith, length-append}
 use Rattle.std.specs.Prelude.{FitsSigned}
 use Rattle.std.specs.Fmt.{signed_decimal}
 use Rattle.std.specs.Int.{Width, w8, w16, w32, w64, byte_len, to_be_bytes}
@@ -31,7 +31,7 @@ use Rattle.ig_text.specs.declared.row.Row.TheVariants.{Kind, CompactObject}
 use Rattle.ig_text.specs.ReadText.{text_at}
 use Rattle.ig_text.specs.TextLaws.{ReadIsBounded}
 use Rattle.ig_text.specs.TextOf.{head_text, entries, entry_text, mark, shape_text, object_text, part_text, row_of, row_text, TextOf}
-use Rattle.ig_text.specs.Tokens.{colon, comma, equals, open_bracket, close_bracket, open_brace, close_brace, quote, backslash, letter_x, hex_byte, hex, scalar_text, stamp_text, uuid_text, until_text, items_text, is_bare, quoted_byte}
+use Rattle.ig_text.specs.Tokens.{colon, comma, equals, open_bracket, close_bracket, open_brace, close_brace, minus, quote, backslash, letter_x, hex_byte, hex, scalar_text, stamp_text, uuid_text, until_text, items_text, is_bare, quoted_byte}
 use Rattle.ig_text.specs.Words.{word_of_code, word, object_row}
 use Rattle.ig_text.proofs.HexLemmas.{width16, width32, width64}
 use Rattle.ig_text.proofs.LevelLemmas.{IsLeaf, IsListed, IsTextual, content_textual, TextOf_out, read_is_text}
@@ -87,6 +87,9 @@ quoted_some (x ∷ xs) =
 counted_length : (xs : List ℕ) → length (counted_bytes xs) ≡ 4 + length xs
 counted_length xs = omega (arith, length-append (LE w32 (pos (length xs))) xs, length-LE_32 (pos (length xs)))
 
+some_after : (xs ys : List ℕ) (b : ℕ) → 1 ≤ length (xs ++ b ∷ ys)
+some_after xs ys b = omega (arith, length-append xs (b ∷ ys))
+
 -- ---- lists
 
 -- the sum of a number for each item
@@ -116,7 +119,11 @@ leaf_bound : {X : Type 0} (Fits : X → Type 0) (T B : X → List ℕ) (p : Part
 leaf_bound Fits T B (scalar k) is x fits = omega (arith, scalar_few k x, scalar_some k x fits)
 leaf_bound Fits T B text is x fits = omega (arith, counted_length x, quoted_some x)
 leaf_bound Fits T B uuid is x fits =
-    omega (arith, length-append (scalar_bytes u64 x.most) (scalar_bytes u64 x.least), length-LE_64 (pos x.most), length-LE_64 (pos x.least))
+    let m : List ℕ = to_be_bytes w64 x.most in
+    let l : List ℕ = to_be_bytes w64 x.least in
+    let some : 1 ≤ length (uuid_text x) =
+    some_after (hex false (take 4 m)) (hex false (take 2 (drop 4 m)) ++ minus ∷ (hex false (drop 6 m) ++ minus ∷ (hex false (take 2 l) ++ minus ∷ hex false (drop 2 l)))) minus in
+    omega (arith, length-append (scalar_bytes u64 x.most) (scalar_bytes u64 x.least), length-LE_64 (pos x.most), length-LE_64 (pos x.least), some)
 leaf_bound Fits T B stamp is x fits =
     omega (arith, length-append (scalar_bytes i64 x.millis) (scalar_bytes i32 x.nanos), length-LE_64 x.millis, length-LE_32 x.nanos, length-append (scalar_text i64 x.millis) (colon ∷ scalar_text i32 x.nanos))
 leaf_bound Fits T B decimal is x fits =
@@ -190,7 +197,9 @@ pieces_total [] = refl
 pieces_total (piece ∷ pieces) = omega (arith, length-append piece (flat_map (λ (b : List ℕ). b) pieces), pieces_total pieces)
 
 pieces_bound : (bits : ℕ) (type : ℤ) (shape : Shape) (pieces : List (List ℕ)) → length (object_bytes bits type shape pieces) ≤ 23 + total (λ piece. length piece + 8) pieces
-pieces_bound bits type shape [] = omega (arith, header_len _)
+pieces_bound bits type shape [] =
+    let alone : length (object_bytes bits type shape []) ≡ 23 = header_len _ in
+    omega (arith, alone)
 pieces_bound bits type shape (piece ∷ pieces) =
     let fields : List ℕ = flat_map (λ (b : List ℕ). b) (piece ∷ pieces) in
     let offsets : List ℕ = places_from 24 (piece ∷ pieces) in
@@ -242,7 +251,7 @@ code_some _ = refl
 
 word_some : (r : Row) → 4 ≤ length (word r)
 word_some (Kind c) = leb-true 4 (length (word_of_code c)) (code_some c)
-word_some CompactObject = omega arith
+word_some CompactObject = leb-true 4 (length (word CompactObject)) refl
 
 row_bound : (levels : ℕ) → ((v : Value) → FitsTo levels v → length (Canon v) ≤ 24 * length (TextOf v)) → (c : Code) (x : Content Value (content c)) → FitsPart (FitsTo levels) (content c) x →
     suc (length (part_bytes Canon (content c) x)) ≤ 24 * length (row_text TextOf c x)
