@@ -166,14 +166,15 @@ fn shows_a_page(alloc: Global) -> bool {
         more: false,
     };
     let mut out = Octets::empty(alloc);
-    write_shown(alloc, &Shown::Page(page), &mut out) == Ok(()) && out.as_slice() == b"page 7 0 end"
+    write_shown(alloc, &Shown::Page(page), &mut out) == Ok(())
+        && out.as_slice() == b"page 7 0 end".as_slice()
 }
 
 /// Whether a count is written so.
 fn shows_a_count(alloc: Global) -> bool {
     let mut out = Octets::empty(alloc);
     let count = Shown::Out(Outcome::Count(-1));
-    write_shown(alloc, &count, &mut out) == Ok(()) && out.as_slice() == b"count -1"
+    write_shown(alloc, &count, &mut out) == Ok(()) && out.as_slice() == b"count -1".as_slice()
 }
 
 /// Whether a fault is written so.
@@ -183,7 +184,8 @@ fn shows_a_fault(alloc: Global) -> bool {
         text: Text::new(String::new(alloc)),
     };
     let mut out = Octets::empty(alloc);
-    write_fault(alloc, &fault, &mut out) == Ok(()) && out.as_slice() == b"error 1000 \"\""
+    write_fault(alloc, &fault, &mut out) == Ok(())
+        && out.as_slice() == b"error 1000 \"\"".as_slice()
 }
 
 /// Whether a map without groups is written so.
@@ -196,7 +198,7 @@ fn shows_a_map(alloc: Global) -> bool {
         groups: Items::new(Vec::new(alloc)),
     };
     let mut out = Octets::empty(alloc);
-    write_map(alloc, &map, &mut out) == Ok(()) && out.as_slice() == b"parts 3.1 0"
+    write_map(alloc, &map, &mut out) == Ok(()) && out.as_slice() == b"parts 3.1 0".as_slice()
 }
 
 #[test]
