@@ -1,0 +1,144 @@
+-- The steps of the loops that read.
+use Rattle.std.proofs.Common.{◌≡◌, ℕ, zero, suc, ◌+◌, ◌-◌, ◌*◌, ◌<◌, ◌≤◌, Bool, true, false, cond, List, [], ◌∷◌, ◌++◌, length, drop, get_or, Result, Ok, Err, eqb, ltb, leb, eq-eqb, refl, sym, ap, ◌∙◌, append_assoc, arith}
+use Rattle.std.specs.Char.{is_ascii_digit, digit_value}
+use Rattle.std.specs.List.{prefix_len}
+use Rattle.std.specs.Str.Parse.{digits_value_after}
+use Rattle.std.proofs.lemmas.Bool.{ne_eqb, and_parts, leb-true, lt-ltb, le-ltb, cond-true, cond-false}
+use Rattle.std.proofs.lemmas.List.{drop_all, append-nil}
+use Rattle.ig_text.specs.Tokens.{comma}
+use Rattle.ig_text.specs.ReadText.{Read, ◌>>=◌, mapped_read, checked_read, is_countable, mark_at, until_at, next_at, some_at, any_at, items_at}
+use Rattle.ig_text.proofs.LoopLemmas.{drop_item}
+use Rattle.ig_text.proofs.ReadsLemmas.{done}
+
+-- ---- how many bytes in front pass a test
+
+pub prefix_step : (p : ℕ → Bool) (xs : List ℕ) (i x n : ℕ) → i < length xs → x ≡ get_or xs i x → p x ≡ true → n ≡ i + prefix_len p (drop i xs) → n ≡ (i + 1) + prefix_len p (drop (i + 1) xs)
+prefix_step p xs i x n lt item passes before =
+    let more : prefix_len p (drop i xs) ≡ 1 + prefix_len p (drop (i + 1) xs) = ap (prefix_len p) (drop_item xs i x lt item) ∙ cond-true (p x) (1 + prefix_len p (drop (i + 1) xs)) 0 passes in
+    omega (arith, before, more)
+
+pub prefix_stop : (p : ℕ → Bool) (xs : List ℕ) (i x n : ℕ) → i < length xs → x ≡ get_or xs i x → p x ≡ false → n ≡ i + prefix_len p (drop i xs) → n ≡ i
+prefix_stop p xs i x n lt item fails before =
+    let none : prefix_len p (drop i xs) ≡ 0 = ap (prefix_len p) (drop_item xs i x lt item) ∙ cond-false (p x) (1 + prefix_len p (drop (i + 1) xs)) 0 fails in
+    omega (arith, before, none)
+
+pub prefix_end : (p : ℕ → Bool) (xs : List ℕ) (i n : ℕ) → length xs ≤ i → n ≡ i + prefix_len p (drop i xs) → n ≡ i
+prefix_end p xs i n le before =
+    let none : prefix_len p (drop i xs) ≡ 0 = ap (prefix_len p) (drop_all i xs le) in
+    omega (arith, before, none)
+
+-- ---- items up to a byte
+
+-- the same reading, with these items in front
+abbrev pub with_front : {A : Type 0} → List A → Read (List A) → Read (List A)
+with_front front r = mapped_read (λ xs. front ++ xs) r
+
+pub with_none : {A : Type 0} (r : Read (List A)) → with_front [] r ≡ r
+with_none (Ok (xs, s)) = refl
+with_none (Err left) = refl
+
+-- the text doesn't begin with this byte
+abbrev pub IsNotBefore : ℕ → List ℕ → Type 0
+IsNotBefore b s = (t : List ℕ) → s ≡ b ∷ t → ⊥
+
+front_more : {A : Type 0} (front : List A) (x : A) (r : Read (List A)) → with_front front (r >>= λ xs. done (x ∷ xs.0, xs.1)) ≡ with_front (front ++ x ∷ []) r
+front_more front x (Ok (xs, s)) = ap (λ l. done (l, s)) (sym (append_assoc front (x ∷ []) xs))
+front_more front x (Err left) = refl
+
+step_on : {A : Type 0} (R : List ℕ → Read A) (close n : ℕ) (s : List ℕ) (r : Read A) → R [] ≡ Err 0 → IsNotBefore close s → R s ≡ r → until_at R close (suc n) s ≡ (r >>= λ x. until_at R close n x.1 >>= λ xs. done (x.0 ∷ xs.0, xs.1))
+step_on R close n [] r none other e = ap (λ q. q >>= λ x. until_at R close n x.1 >>= λ xs. done (x.0 ∷ xs.0, xs.1)) (sym none ∙ e)
+step_on R close n (b ∷ s) r none other e = rw (ne_eqb b close (λ same. other s (ap (λ (c : ℕ). c ∷ s) same)), e) refl
+
+counted_down : (most counter : ℕ) → counter < most → most - counter ≡ suc (most - (counter + 1))
+counted_down most counter lt = omega (arith, lt)
+
+-- one more item is read
+pub until_more : {A : Type 0} (R : List ℕ → Read A) (close most counter : ℕ) (s : List ℕ) (front : List A) (x : A) (rest : List ℕ) (whole : Read (List A)) → R [] ≡ Err 0 → counter < most → IsNotBefore close s → R s ≡ Ok (x, rest) →
+    with_front front (until_at R close (most - counter) s) ≡ whole → with_front (front ++ x ∷ []) (until_at R close (most - (counter + 1)) rest) ≡ whole
+until_more R close most counter s front x rest whole none lt other e before =
+    let n : ℕ = most - (counter + 1) in
+    sym (front_more front x (until_at R close n rest)) ∙ ap (with_front front) (sym (step_on R close n s (Ok (x, rest)) none other e)) ∙ ap (λ (k : ℕ). with_front front (until_at R close k s)) (sym (counted_down most counter lt)) ∙ before
+
+-- an item is wrong
+pub until_fails : {A : Type 0} (R : List ℕ → Read A) (close most counter : ℕ) (s : List ℕ) (front : List A) (left : ℕ) (whole : Read (List A)) → R [] ≡ Err 0 → counter < most → IsNotBefore close s → R s ≡ Err left →
+    with_front front (until_at R close (most - counter) s) ≡ whole → whole ≡ Err left
+until_fails R close most counter s front left whole none lt other e before =
+    sym before ∙ ap (λ (k : ℕ). with_front front (until_at R close k s)) (counted_down most counter lt) ∙ ap (with_front front) (step_on R close (most - (counter + 1)) s (Err left) none other e)
+
+-- the byte that closes the items
+pub until_closed : {A : Type 0} (R : List ℕ → Read A) (close most counter : ℕ) (s rest : List ℕ) (front : List A) (whole : Read (List A)) → counter < most → s ≡ close ∷ rest →
+    with_front front (until_at R close (most - counter) s) ≡ whole → whole ≡ Ok (front, rest)
+until_closed R close most counter s rest front whole lt is before =
+    let n : ℕ = most - (counter + 1) in
+    let one : until_at R close (suc n) (close ∷ rest) ≡ Ok ([], rest) = rw (eq-eqb close close refl) refl in
+    sym before ∙ ap (λ (k : ℕ). with_front front (until_at R close k s)) (counted_down most counter lt) ∙ ap (λ (t : List ℕ). with_front front (until_at R close (suc n) t)) is ∙ ap (with_front front) one
+    ∙ ap (λ l. done (l, rest)) (append-nil front)
+
+-- nothing closes them
+pub until_out : {A : Type 0} (R : List ℕ → Read A) (close most counter : ℕ) (s : List ℕ) (front : List A) (whole : Read (List A)) → most ≤ counter → with_front front (until_at R close (most - counter) s) ≡ whole → whole ≡ Err (length s)
+until_out R close most counter s front whole le before =
+    let none : most - counter ≡ 0 = omega (arith, le) in
+    sym before ∙ ap (λ (k : ℕ). with_front front (until_at R close k s)) none
+
+-- ---- the first item, and the others after commas
+
+pub any_empty : {A : Type 0} (R : List ℕ → Read A) (close : ℕ) (s rest : List ℕ) → s ≡ close ∷ rest → any_at R close s ≡ Ok ([], rest)
+any_empty R close s rest is = ap (any_at R close) is ∙ rw (eq-eqb close close refl) refl
+
+pub any_some : {A : Type 0} (R : List ℕ → Read A) (close : ℕ) (s : List ℕ) → IsNotBefore close s → any_at R close s ≡ some_at R close s
+any_some R close [] other = refl
+any_some R close (b ∷ s) other = rw (ne_eqb b close (λ same. other s (ap (λ (c : ℕ). c ∷ s) same))) refl
+
+pub first_wrong : {A : Type 0} (R : List ℕ → Read A) (close : ℕ) (s : List ℕ) (left : ℕ) → R s ≡ Err left → some_at R close s ≡ Err left
+first_wrong R close s left e = rw e refl
+
+pub first_read : {A : Type 0} (R : List ℕ → Read A) (close : ℕ) (s : List ℕ) (x : A) (rest : List ℕ) → R s ≡ Ok (x, rest) → with_front (x ∷ []) (until_at (next_at R) close (length rest) rest) ≡ some_at R close s
+first_read R close s x rest e = rw e refl
+
+-- the item after a comma
+pub next_read : {A : Type 0} (R : List ℕ → Read A) (s t : List ℕ) (r : Read A) → mark_at comma s ≡ Ok (tt, t) → R t ≡ r → next_at R s ≡ r
+next_read R s t r mark e = rw mark e
+
+pub no_comma : {A : Type 0} (R : List ℕ → Read A) (s : List ℕ) (left : ℕ) → mark_at comma s ≡ Err left → next_at R s ≡ Err left
+no_comma R s left mark = rw mark refl
+
+-- the items are those that were read, if they are countable
+pub items_are : {A : Type 0} (R : List ℕ → Read A) (close : ℕ) (s : List ℕ) (r : Read (List A)) → any_at R close s ≡ r → items_at R close s ≡ checked_read is_countable (length s) r
+items_are R close s r e = ap (checked_read is_countable (length s)) e
+
+-- ---- the value of digits
+
+digit_is : (x : ℕ) → is_ascii_digit x ≡ true → (48 ≤ x) × (x ≤ 57) × (digit_value x ≡ x - 48)
+digit_is x is =
+    let p = and_parts (leb 48 x) (leb x 57) is in
+    let least : 48 ≤ x = leb-true 48 x p.0 in
+    let most : x ≤ 57 = leb-true x 57 p.1 in
+    let above : ltb x 48 ≡ false = le-ltb x 48 least in
+    let below : ltb x 58 ≡ true = lt-ltb x 58 (omega (arith, most)) in
+    (least, most, rw (above, below) refl)
+
+grows : (n : ℕ) (ds : List ℕ) → n ≤ digits_value_after 10 n ds
+grows n [] = omega arith
+grows n (d ∷ ds) = omega (arith, grows (n * 10 + digit_value d) ds)
+
+-- one more digit is counted
+pub digit_step : (ds : List ℕ) (i x n whole : ℕ) → i < length ds → x ≡ get_or ds i x → is_ascii_digit x ≡ true → digits_value_after 10 n (drop i ds) ≡ whole → digits_value_after 10 (n * 10 + (x - 48)) (drop (i + 1) ds) ≡ whole
+digit_step ds i x n whole lt item is before =
+    let d = digit_is x is in
+    ap (λ (k : ℕ). digits_value_after 10 (n * 10 + k) (drop (i + 1) ds)) (sym d.2) ∙ ap (digits_value_after 10 n) (sym (drop_item ds i x lt item)) ∙ before
+
+-- there is room for it, and the digit isn't below `0`
+pub digit_room : (ds : List ℕ) (i x n whole : ℕ) → i < length ds → x ≡ get_or ds i x → is_ascii_digit x ≡ true → digits_value_after 10 n (drop i ds) ≡ whole → (48 ≤ x) × (n * 10 + (x - 48) ≤ whole)
+digit_room ds i x n whole lt item is before =
+    let d = digit_is x is in
+    let next = digit_step ds i x n whole lt item is before in
+    (d.0, omega (arith, grows (n * 10 + (x - 48)) (drop (i + 1) ds), next))
+
+pub digits_done : (ds : List ℕ) (i n whole : ℕ) → length ds ≤ i → digits_value_after 10 n (drop i ds) ≡ whole → n ≡ whole
+digits_done ds i n whole le before = ap (digits_value_after 10 n) (sym (drop_all i ds le)) ∙ before
+
+-- ---- marks
+
+pub mark_missing : (b : ℕ) (s : List ℕ) → IsNotBefore b s → mark_at b s ≡ Err (length s)
+mark_missing b [] other = refl
+mark_missing b (c ∷ s) other = rw (ne_eqb c b (λ same. other s (ap (λ (d : ℕ). d ∷ s) same))) refl

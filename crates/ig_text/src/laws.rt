@@ -1,0 +1,13 @@
+//! Laws of the texts. These functions do nothing; their contracts say what holds of every input.
+
+ghost use Rattle.ig_text.specs.TextLaws.{ReadIsText, TextIsRead, TextTellsApart, ReadIsBounded};
+
+/// What is read from a text keeps to the limits, and its text stood there. The text of a value within
+/// the limits is read, whatever follows that a number can't go on with. Two values have two texts. The
+/// canonical form of a value that was read has at most 24 bytes for each byte of its text.
+pub fn one_text()
+    ensures read { ReadIsText }
+    ensures again { TextIsRead }
+    ensures apart { TextTellsApart }
+    ensures bound { ReadIsBounded }
+{}
