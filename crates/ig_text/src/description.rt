@@ -69,6 +69,7 @@ fn braced<T: ReadPart>(alloc: Global, text: &[u8]) -> Result<(Items<T>, &[u8]), 
 }
 
 /// What stands before the lists of a description.
+#[derive(Drop)]
 struct Front {
     type_id: i32,
     name: Text,
