@@ -29,6 +29,3 @@ pub use read::{after, mark, natural, signed};
 pub use row::Row;
 pub use values::read_value;
 pub use write::write_value;
-
-#[cfg(test)]
-mod tests;

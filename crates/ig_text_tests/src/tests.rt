@@ -1,9 +1,8 @@
-//! The texts of every kind of value, both ways, and texts that are refused.
+//! The texts of every kind of value and of descriptions, both ways, and texts that are refused.
 
-use crate::fault::TextFault;
-use crate::values::read_value;
-use crate::write::write_value;
 use ig_base::Octets;
+use ig_text::{PutText, ReadError, ReadPart, TextFault, read_value, write_value};
+use ig_types::TypeMeta;
 use std::alloc::Global;
 
 /// A text of each kind of value.
@@ -119,6 +118,27 @@ static REFUSED: [(&str, usize); 46] = [
     ("ts:1", 4),
 ];
 
+/// Texts of descriptions.
+static DESCRIPTIONS: [&str; 4] = [
+    "type:7:\"Point\":null:0{}{}{}",
+    "type:-1:\"\":\"x\":0{\"x\"=3/120,\"y\"=-4/-121}{}{-5=[120,-121],7=[]}",
+    "type:0:\"a\\x20b\":null:1{}{\"BLUE\"=2,\"RED\"=-1}{}",
+    "type:2147483647:\"E\":\"\":1{\"id\"=3/3355}{}{1=[3355]}",
+];
+
+/// Texts that aren't a description's, each with the offset of the first wrong part.
+static NO_DESCRIPTIONS: [(&str, usize); 9] = [
+    ("kind:7", 0),
+    ("type:7", 6),
+    ("type:7:\"a\":nil:0{}{}{}", 11),
+    ("type:7:\"a\":null:2{}{}{}", 16),
+    ("type:7:\"a\":null:0{\"b\"=1}{}{}", 23),
+    ("type:7:\"a\":null:1{}{\"b\"=1}{2=3}", 29),
+    ("type:7:\"a\":null:0{\"b\"=1/1,\"a\"=1/2}{}{}", 0),
+    ("type:7:\"a\":null:0{}{\"b\"=1}{}", 0),
+    ("type:7:\"a\":null:0{}{}{2=[],2=[]}", 0),
+];
+
 /// Whether the text is read, and its value has this text.
 fn comes_back(alloc: Global, text: &str) -> bool {
     let Ok(value) = read_value(alloc, text.as_bytes()) else {
@@ -165,5 +185,53 @@ fn texts_come_back(rt: HostRuntime) {
 #[test]
 fn wrong_texts_are_refused(rt: HostRuntime) {
     let accepted = first_accepted(rt.alloc(), &REFUSED);
+    assert_eq!(rt; accepted, None);
+}
+
+/// Whether a description is read from the whole text and has this text.
+fn description_comes_back(alloc: Global, text: &str) -> bool {
+    let Ok((meta, rest)) = TypeMeta::read(alloc, text.as_bytes()) else {
+        return false;
+    };
+    let mut out = Octets::empty(alloc);
+    rest.is_empty() && meta.put(&mut out) == Ok(()) && out.as_slice() == text.as_bytes()
+}
+
+/// The first description of the table that doesn't come back.
+fn first_lost_description(alloc: Global, texts: &[&'static str]) -> Option<&'static str> {
+    for text in texts {
+        if !description_comes_back(alloc, text) {
+            return Some(*text);
+        }
+    }
+    None
+}
+
+/// Whether the text is no description's from this offset on.
+fn is_no_description_at(alloc: Global, text: &str, at: usize) -> bool {
+    match TypeMeta::read(alloc, text.as_bytes()) {
+        Err(ReadError::Bad { left }) => text.len() - left == at,
+        _ => false,
+    }
+}
+
+/// The first text of the table that isn't refused at its offset.
+fn first_accepted_description(
+    alloc: Global,
+    rows: &[(&'static str, usize)],
+) -> Option<&'static str> {
+    for (text, at) in rows {
+        if !is_no_description_at(alloc, text, *at) {
+            return Some(*text);
+        }
+    }
+    None
+}
+
+#[test]
+fn descriptions_come_back(rt: HostRuntime) {
+    let lost = first_lost_description(rt.alloc(), &DESCRIPTIONS);
+    assert_eq!(rt; lost, None);
+    let accepted = first_accepted_description(rt.alloc(), &NO_DESCRIPTIONS);
     assert_eq!(rt; accepted, None);
 }
