@@ -28,6 +28,3 @@ pub use put_ask::{put_ask, put_line};
 pub use read_line::read_line;
 pub use shown::{write_fault, write_map, write_shown};
 pub use word::Word;
-
-#[cfg(test)]
-mod tests;

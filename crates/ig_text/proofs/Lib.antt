@@ -10,3 +10,4 @@ pub mod WholeLemmas
 pub mod BoundLemmas
 pub mod ReaderLoopLemmas
 pub mod DescriptionLemmas
+pub mod ValueLemmas

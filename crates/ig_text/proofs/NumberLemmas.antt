@@ -54,6 +54,12 @@ plain_from (d ∷ []) some lead few = refl
 plain_from (d ∷ e ∷ ds) some lead few =
     and_from (not (eqb d 48)) (ltb (length ds) 18) (not_from_false (eqb d 48) (ne_eqb d 48 (λ h. let one = lead h in omega (arith, one)))) (lt-ltb (length ds) 18 (omega (arith, few)))
 
+-- the digits of a number that is read, and their bound
+pub plain_small : (s ds : List ℕ) (len : ℕ) → len ≡ prefix_len is_ascii_digit s → ds ≡ take len s → is_plain ds ≡ true → (all_ascii_digits ds ≡ true) × (digits_value 10 ds < 10 ^ 19)
+plain_small s ds len is front plain =
+    let digits : all_ascii_digits ds ≡ true = ap all_ascii_digits (front ∙ ap (λ (k : ℕ). take k s) is) ∙ front_digits s in
+    (digits, digits_value_short own ds 19 digits (plain_parts ds plain).2)
+
 lead_decimal : (n : ℕ) → n < 2 ^ 64 → get_or (decimal n) 0 0 ≡ 48 → length (decimal n) ≡ 1
 lead_decimal zero big h = ap length (decimal_digit 0 (omega arith))
 lead_decimal (suc m) big h = absurd (omega (arith, first_decimal (suc m) (omega arith) big, h))

@@ -1,12 +1,13 @@
 -- The steps of the loops that read.
-use Rattle.std.proofs.Common.{◌≡◌, ℕ, zero, suc, ◌+◌, ◌-◌, ◌*◌, ◌<◌, ◌≤◌, Bool, true, false, cond, List, [], ◌∷◌, ◌++◌, length, drop, get_or, Result, Ok, Err, eqb, ltb, leb, eq-eqb, refl, sym, ap, ◌∙◌, append_assoc, arith}
+use Rattle.std.proofs.Common.{◌≡◌, ℕ, zero, suc, ◌+◌, ◌-◌, ◌*◌, ◌<◌, ◌≤◌, Bool, true, false, cond, List, [], ◌∷◌, ◌++◌, length, take, drop, get_or, set, Result, Ok, Err, eqb, ltb, leb, eq-eqb, refl, sym, ap, ◌∙◌, append_assoc, arith}
 use Rattle.std.specs.Char.{is_ascii_digit, digit_value}
 use Rattle.std.specs.List.{prefix_len}
-use Rattle.std.specs.Str.Parse.{digits_value_after}
+use Rattle.std.specs.Str.{all_ascii_digits}
+use Rattle.std.specs.Str.Parse.{digits_value, digits_value_after}
 use Rattle.std.proofs.lemmas.Bool.{ne_eqb, and_parts, leb-true, lt-ltb, le-ltb, cond-true, cond-false}
-use Rattle.std.proofs.lemmas.List.{drop_all, append-nil}
+use Rattle.std.proofs.lemmas.List.{drop_all, take_all, take_more_set, append-nil}
 use Rattle.ig_text.specs.Tokens.{comma}
-use Rattle.ig_text.specs.ReadText.{Read, ◌>>=◌, mapped_read, checked_read, is_countable, mark_at, until_at, next_at, some_at, any_at, items_at}
+use Rattle.ig_text.specs.ReadText.{Read, ◌>>=◌, mapped_read, checked_read, is_countable, mark_at, is_plain, natural_of, natural_at, pair_at, run_at, until_at, next_at, some_at, any_at, items_at}
 use Rattle.ig_text.proofs.LoopLemmas.{drop_item}
 use Rattle.ig_text.proofs.ReadsLemmas.{done}
 
@@ -142,3 +143,45 @@ digits_done ds i n whole le before = ap (digits_value_after 10 n) (sym (drop_all
 pub mark_missing : (b : ℕ) (s : List ℕ) → IsNotBefore b s → mark_at b s ≡ Err (length s)
 mark_missing b [] other = refl
 mark_missing b (c ∷ s) other = rw (ne_eqb c b (λ same. other s (ap (λ (d : ℕ). d ∷ s) same))) refl
+
+pub mark_there : (b : ℕ) (s t : List ℕ) → s ≡ b ∷ t → mark_at b s ≡ Ok (tt, t)
+mark_there b s t is = ap (mark_at b) is ∙ rw (eq-eqb b b refl) refl
+
+-- ---- a number
+
+-- the digits of a list of digits
+pub digit_at : (ds : List ℕ) (i x : ℕ) → all_ascii_digits ds ≡ true → i < length ds → x ≡ get_or ds i x → is_ascii_digit x ≡ true
+digit_at [] i x all lt is = absurd (omega (arith, lt))
+digit_at (d ∷ ds) zero x all lt is = ap is_ascii_digit is ∙ (and_parts (is_ascii_digit d) (all_ascii_digits ds) all).0
+digit_at (d ∷ ds) (suc i) x all lt is = digit_at ds i x (and_parts (is_ascii_digit d) (all_ascii_digits ds) all).1 (omega (arith, lt)) is
+
+pub natural_wrong : (s ds : List ℕ) (len : ℕ) → len ≡ prefix_len is_ascii_digit s → ds ≡ take len s → is_plain ds ≡ false → natural_at s ≡ Err (length s)
+natural_wrong s ds len is front not_plain =
+    ap (λ (k : ℕ). natural_of k s) (sym is) ∙ cond-false (is_plain (take len s)) (done (digits_value 10 (take len s), drop len s)) (Err (length s)) (ap is_plain (sym front) ∙ not_plain)
+
+pub natural_read : (s ds rest : List ℕ) (len n : ℕ) → len ≡ prefix_len is_ascii_digit s → ds ≡ take len s → rest ≡ drop len s → is_plain ds ≡ true → n ≡ digits_value 10 ds → natural_at s ≡ Ok (n, rest)
+natural_read s ds rest len n is front back plain value =
+    ap (λ (k : ℕ). natural_of k s) (sym is) ∙ cond-true (is_plain (take len s)) (done (digits_value 10 (take len s), drop len s)) (Err (length s)) (ap is_plain (sym front) ∙ plain)
+    ∙ ap (λ (l : List ℕ). done (digits_value 10 l, drop len s)) (sym front) ∙ ap (λ (l : List ℕ). done (digits_value 10 ds, l)) (sym back) ∙ ap (λ (m : ℕ). done (m, rest)) (sym value)
+
+-- ---- bytes from pairs of digits
+
+-- one more byte is read, and written into its place
+pub run_more : (upper : Bool) (into : List ℕ) (i n : ℕ) (s rest : List ℕ) (x : ℕ) (whole : Read (List ℕ)) → i < length into → length into ≡ n → pair_at upper s ≡ Ok (x, rest) →
+    with_front (take i into) (run_at upper (n - i) s) ≡ whole → with_front (take (i + 1) (set into i x)) (run_at upper (n - (i + 1)) rest) ≡ whole
+run_more upper into i n s rest x whole lt len e before =
+    let k : ℕ = n - (i + 1) in
+    let one : run_at upper (suc k) s ≡ (run_at upper k rest >>= λ xs. done (x ∷ xs.0, xs.1)) = rw e refl in
+    ap (λ (f : List ℕ). with_front f (run_at upper k rest)) (take_more_set into i x lt) ∙ sym (front_more (take i into) x (run_at upper k rest)) ∙ ap (with_front (take i into)) (sym one)
+    ∙ ap (λ (m : ℕ). with_front (take i into) (run_at upper m s)) (sym (counted_down n i (omega (arith, lt, len)))) ∙ before
+
+pub run_fails : (upper : Bool) (into : List ℕ) (i n : ℕ) (s : List ℕ) (left : ℕ) (whole : Read (List ℕ)) → i < length into → length into ≡ n → pair_at upper s ≡ Err left →
+    with_front (take i into) (run_at upper (n - i) s) ≡ whole → whole ≡ Err left
+run_fails upper into i n s left whole lt len e before =
+    let one : run_at upper (suc (n - (i + 1))) s ≡ Err left = rw e refl in
+    sym before ∙ ap (λ (m : ℕ). with_front (take i into) (run_at upper m s)) (counted_down n i (omega (arith, lt, len))) ∙ ap (with_front (take i into)) one
+
+pub run_done : (upper : Bool) (into : List ℕ) (i n : ℕ) (s : List ℕ) (whole : Read (List ℕ)) → length into ≤ i → length into ≡ n → with_front (take i into) (run_at upper (n - i) s) ≡ whole → whole ≡ Ok (into, s)
+run_done upper into i n s whole le len before =
+    let none : n - i ≡ 0 = omega (arith, le, len) in
+    sym before ∙ ap (λ (m : ℕ). with_front (take i into) (run_at upper m s)) none ∙ ap (λ (l : List ℕ). done (l, s)) (append-nil (take i into) ∙ take_all i into le)

@@ -139,7 +139,7 @@ pub(crate) fn fill<'a>(
         (reading.run_at upper (length into.old) text.now) }
 {
     let mut rest = text;
-    for byte in into {
+    for byte in into.iter_mut() {
         let (read, after) = pair(upper, rest)?;
         *byte = read;
         rest = after;

@@ -1,10 +1,8 @@
 //! Lines of every word, both ways, and lines that are refused.
 
-use crate::put_ask::put_line;
-use crate::read_line::read_line;
-use crate::shown::{write_fault, write_map, write_shown};
 use ig_base::{Items, Octets, Text, Topology};
 use ig_caches::{Outcome, Page, Shown};
+use ig_lines::{put_line, read_line, write_fault, write_map, write_shown};
 use ig_parts::PartMap;
 use ig_text::TextFault;
 use ig_wire::Fault;
