@@ -245,13 +245,13 @@ object_bound Fits T B inner o fits =
 
 -- ---- values
 
-code_some : (c : Code) → leb 4 (length (word_of_code c)) ≡ true
+code_some : (c : Code) → leb 3 (length (word_of_code c)) ≡ true
 code_some code.Byte = refl
 code_some _ = refl
 
-word_some : (r : Row) → 4 ≤ length (word r)
-word_some (Kind c) = leb-true 4 (length (word_of_code c)) (code_some c)
-word_some CompactObject = leb-true 4 (length (word CompactObject)) refl
+word_some : (r : Row) → 3 ≤ length (word r)
+word_some (Kind c) = leb-true 3 (length (word_of_code c)) (code_some c)
+word_some CompactObject = leb-true 3 (length (word CompactObject)) refl
 
 row_bound : (levels : ℕ) → ((v : Value) → FitsTo levels v → length (Canon v) ≤ 24 * length (TextOf v)) → (c : Code) (x : Content Value (content c)) → FitsPart (FitsTo levels) (content c) x →
     suc (length (part_bytes Canon (content c) x)) ≤ 24 * length (row_text TextOf c x)

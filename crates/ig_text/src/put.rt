@@ -1,6 +1,6 @@
 //! Writing the texts of the parts that hold no value.
 
-ghost use Rattle.std.specs.Prelude.{◌≡◌, ◌++◌, ◌∷◌, ◌<◌, List, ℕ, [], length, true, OnOk};
+ghost use Rattle.std.specs.Prelude.{◌≡◌, ◌++◌, ◌∷◌, ◌<◌, List, ℕ, [], length, true, false, OnOk};
 ghost use Rattle.std.specs.Fmt.{digit_glyph, decimal as decimal_digits};
 ghost use Rattle.ig_value.specs.Part as scalar;
 ghost use Rattle.ig_text.specs.Tokens as tokens;
