@@ -1,6 +1,8 @@
 //! The table of words.
 
 ghost use Rattle.std.specs.Prelude.{◌≡◌};
+ghost use Rattle.std.specs.List.{find};
+ghost use Rattle.ig_text.specs.ReadText.{begins_with};
 ghost use Rattle.ig_text.specs.Words as words;
 
 use crate::row::Row;
@@ -107,7 +109,14 @@ static ROWS: [Row; 38] = [
 pub(crate) fn row_at(text: &[u8]) -> Option<Row>
     ensures { result ≡ words.row_at text.now }
 {
-    for row in &ROWS {
+    first_row(&ROWS, text)
+}
+
+/// The first of these rows whose word the text begins with.
+fn first_row(rows: &[Row], text: &[u8]) -> Option<Row>
+    ensures { result ≡ find (λ r. begins_with (words.word r) text.now) rows.now }
+{
+    for row in rows {
         if text.starts_with(word(*row)) {
             return Some(*row);
         }
