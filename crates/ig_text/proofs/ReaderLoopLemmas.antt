@@ -1,13 +1,17 @@
 -- The steps of the loops that read.
-use Rattle.std.proofs.Common.{◌≡◌, ℕ, zero, suc, ◌+◌, ◌-◌, ◌*◌, ◌<◌, ◌≤◌, Bool, true, false, cond, List, [], ◌∷◌, ◌++◌, length, take, drop, get_or, set, Result, Ok, Err, eqb, ltb, leb, eq-eqb, refl, sym, ap, ◌∙◌, append_assoc, arith}
+use Rattle.std.proofs.Common.{◌≡◌, ℕ, zero, suc, ◌+◌, ◌-◌, ◌*◌, ◌<◌, ◌≤◌, ◌^◌, ℤ, pos, negsuc, ◌-ℤ◌, to_z, of_z, w64, ◌&&◌, Bool, true, false, cond, List, [], ◌∷◌, ◌++◌, length, take, drop, get_or, set, Result, Ok, Err, eqb, ltb, leb, eq-eqb, refl, sym, ap, ◌∙◌, append_assoc, arith}
 use Rattle.std.specs.Char.{is_ascii_digit, digit_value}
 use Rattle.std.specs.List.{prefix_len}
 use Rattle.std.specs.Str.{all_ascii_digits}
 use Rattle.std.specs.Str.Parse.{digits_value, digits_value_after}
-use Rattle.std.proofs.lemmas.Bool.{ne_eqb, and_parts, leb-true, lt-ltb, le-ltb, cond-true, cond-false}
+use Rattle.std.proofs.lemmas.Bool.{ne_eqb, and_parts, and_from, leb-true, lt-ltb, le-ltb, le-leb, cond-true, cond-false}
+use Rattle.std.proofs.lemmas.Int.{to_z_pos, to_z-of_z}
 use Rattle.std.proofs.lemmas.List.{drop_all, take_all, take_more_set, append-nil}
-use Rattle.ig_text.specs.Tokens.{comma}
-use Rattle.ig_text.specs.ReadText.{Read, ◌>>=◌, mapped_read, checked_read, is_countable, mark_at, is_plain, natural_of, natural_at, pair_at, run_at, until_at, next_at, some_at, any_at, items_at}
+use Rattle.ig_text.specs.declared.fault.ReadError.{ReadError}
+use Rattle.ig_text.specs.declared.fault.ReadError.TheVariants as error
+use Rattle.ig_text.specs.ReaderAnswers.{Fails}
+use Rattle.ig_text.specs.Tokens.{comma, minus}
+use Rattle.ig_text.specs.ReadText.{Read, ◌>>=◌, mapped_read, checked_read, is_countable, mark_at, is_plain, natural_of, natural_at, signed_at, pair_at, run_at, until_at, next_at, some_at, any_at, items_at}
 use Rattle.ig_text.proofs.LoopLemmas.{drop_item}
 use Rattle.ig_text.proofs.ReadsLemmas.{done}
 
@@ -185,3 +189,25 @@ pub run_done : (upper : Bool) (into : List ℕ) (i n : ℕ) (s : List ℕ) (whol
 run_done upper into i n s whole le len before =
     let none : n - i ≡ 0 = omega (arith, le, len) in
     sym before ∙ ap (λ (m : ℕ). with_front (take i into) (run_at upper m s)) none ∙ ap (λ (l : List ℕ). done (l, s)) (append-nil (take i into) ∙ take_all i into le)
+
+-- a byte is wrong, or memory ran out
+pub run_stops : (upper : Bool) (into : List ℕ) (i n : ℕ) (s : List ℕ) (e : ReadError) (whole : Read (List ℕ)) → i < length into → length into ≡ n → Fails e (pair_at upper s) → with_front (take i into) (run_at upper (n - i) s) ≡ whole → Fails e whole
+run_stops upper into i n s error.NoMemory whole lt len e before = tt
+run_stops upper into i n s (error.Bad left) whole lt len e before = run_fails upper into i n s left whole lt len e before
+
+-- ---- a number below zero
+
+minus_one : (k : ℕ) → negsuc 0 -ℤ pos k ≡ negsuc k
+minus_one zero = refl
+minus_one (suc k) = let e : 0 + k ≡ k = omega arith in ap (λ (m : ℕ). negsuc (suc m)) e
+
+minus_from : (k : ℕ) → k < 2 ^ 63 → to_z w64 (of_z w64 (negsuc 0 -ℤ to_z w64 k)) ≡ negsuc k
+minus_from k lt =
+    ap (λ (z : ℤ). to_z w64 (of_z w64 (negsuc 0 -ℤ z))) (to_z_pos w64 k lt) ∙ ap (λ (z : ℤ). to_z w64 (of_z w64 z)) (minus_one k) ∙ to_z-of_z w64 (negsuc k) (record { sfits = omega (arith, lt) })
+
+pub minus_there : (limit : ℕ) (s t rest : List ℕ) (n : ℕ) → s ≡ minus ∷ t → natural_at t ≡ Ok (n, rest) → 0 < n → n ≤ limit → limit ≤ 2 ^ 63 →
+    signed_at limit s ≡ Ok (to_z w64 (of_z w64 (negsuc 0 -ℤ to_z w64 (n - 1))), rest)
+minus_there limit s t rest n is e some few most =
+    let passes : (ltb 0 n && leb n limit) ≡ true = and_from (ltb 0 n) (leb n limit) (lt-ltb 0 n some) (le-leb n limit few) in
+    let read : signed_at limit (minus ∷ t) ≡ Ok (negsuc (n - 1), rest) = rw (e, passes) refl in
+    ap (signed_at limit) is ∙ read ∙ ap (λ (z : ℤ). done (z, rest)) (sym (minus_from (n - 1) (omega (arith, some, few, most))))
