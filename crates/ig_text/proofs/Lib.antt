@@ -9,5 +9,6 @@ pub mod LoopLemmas
 pub mod WholeLemmas
 pub mod BoundLemmas
 pub mod ReaderLoopLemmas
+pub mod ReaderStopLemmas
 pub mod DescriptionLemmas
 pub mod ValueLemmas

@@ -46,7 +46,7 @@ with_none (Err left) = refl
 abbrev pub IsNotBefore : ℕ → List ℕ → Type 0
 IsNotBefore b s = (t : List ℕ) → s ≡ b ∷ t → ⊥
 
-front_more : {A : Type 0} (front : List A) (x : A) (r : Read (List A)) → with_front front (r >>= λ xs. done (x ∷ xs.0, xs.1)) ≡ with_front (front ++ x ∷ []) r
+pub front_more : {A : Type 0} (front : List A) (x : A) (r : Read (List A)) → with_front front (r >>= λ xs. done (x ∷ xs.0, xs.1)) ≡ with_front (front ++ x ∷ []) r
 front_more front x (Ok (xs, s)) = ap (λ l. done (l, s)) (sym (append_assoc front (x ∷ []) xs))
 front_more front x (Err left) = refl
 
@@ -54,7 +54,7 @@ step_on : {A : Type 0} (R : List ℕ → Read A) (close n : ℕ) (s : List ℕ) 
 step_on R close n [] r none other e = ap (λ q. q >>= λ x. until_at R close n x.1 >>= λ xs. done (x.0 ∷ xs.0, xs.1)) (sym none ∙ e)
 step_on R close n (b ∷ s) r none other e = rw (ne_eqb b close (λ same. other s (ap (λ (c : ℕ). c ∷ s) same)), e) refl
 
-counted_down : (most counter : ℕ) → counter < most → most - counter ≡ suc (most - (counter + 1))
+pub counted_down : (most counter : ℕ) → counter < most → most - counter ≡ suc (most - (counter + 1))
 counted_down most counter lt = omega (arith, lt)
 
 -- one more item is read

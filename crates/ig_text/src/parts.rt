@@ -1,6 +1,6 @@
 //! Reading the parts that hold no value.
 
-ghost use Rattle.std.specs.Prelude.{List, ℕ, length, Ok as Read_ok};
+ghost use Rattle.std.specs.Prelude.{List, ℕ, length, true, Ok as Read_ok};
 ghost use Rattle.ig_value.specs.Part as scalar;
 ghost use Rattle.ig_text.specs.ReadText as reading;
 ghost use Rattle.ig_text.specs.ReaderAnswers.{ReaderAnswers};
@@ -112,18 +112,27 @@ impl ReadPart for Octets {
         if digits % 2 != 0 {
             return Err(ReadError::Bad { left });
         }
-        let mut bytes = Vec::with_capacity(alloc, digits / 2)?;
-        let mut rest = text;
-        for _ in 0..digits / 2 {
-            let (byte, after) = pair(true, rest)?;
-            bytes.push(byte)?;
-            rest = after;
-        }
+        let (bytes, rest) = paired(alloc, digits / 2, text)?;
         if bytes.len() > LONGEST {
             return Err(ReadError::Bad { left });
         }
         Ok((Octets::new(bytes), rest))
     }
+}
+
+/// This many bytes, from two digits each, and the bytes after them.
+fn paired(alloc: Global, count: usize, text: &[u8]) -> Result<(Vec<u8>, &[u8]), ReadError>
+    ensures { ReaderAnswers (λ x. (x.0.items, x.1.now)) result
+        (reading.run_at true count text.now) }
+{
+    let mut bytes = Vec::with_capacity(alloc, count)?;
+    let mut rest = text;
+    for _ in 0..count {
+        let (byte, after) = pair(true, rest)?;
+        bytes.push(byte)?;
+        rest = after;
+    }
+    Ok((bytes, rest))
 }
 
 impl ReadPart for Text {
