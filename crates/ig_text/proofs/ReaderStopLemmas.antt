@@ -1,9 +1,10 @@
 -- Where a loop that reads stops: at an error, which may be want of memory, or at its end.
 use Rattle.std.proofs.Common.{◌≡◌, ℕ, ◌+◌, ◌-◌, ◌/◌, ◌%◌, ◌<◌, ◌≤◌, ◌^◌, Bool, true, false, cond, ◌&&◌, List, [], ◌∷◌, ◌++◌, length, Result, Ok, Err, ltb, eqb, eq-eqb, refl, sym, ap, subst, ◌∙◌, arith}
 use Rattle.std.specs.List.{prefix_len}
-use Rattle.std.specs.Str.{is_utf8}
+use Rattle.std.specs.Str.{IsUtf8, is_utf8}
 use Rattle.std.proofs.lemmas.Bool.{lt-ltb, le-ltb, cond-true, cond-false, and_from}
 use Rattle.std.proofs.lemmas.List.{append-nil}
+use Rattle.std.proofs.lemmas.Str.{IsUtf8-from_is_utf8}
 use Rattle.ig_text.specs.declared.fault.ReadError.{ReadError}
 use Rattle.ig_text.specs.declared.fault.ReadError.TheVariants as error
 use Rattle.ig_text.specs.ReaderAnswers.{Fails, ReaderAnswers}
@@ -79,3 +80,10 @@ text_wrong s t bytes rest mark e few wrong =
     let countable : is_countable bytes ≡ true = lt-ltb (length bytes) (2 ^ 31) (omega (arith, few)) in
     let fails : is_text bytes ≡ false = ap (λ (b : Bool). b && is_utf8 bytes) countable ∙ wrong in
     quoted_by s t (Ok (bytes, rest)) mark e ∙ cond-false (is_text bytes) (done (bytes, rest)) (Err (length s)) fails
+
+not_so : (b : Bool) → (b ≡ true → false ≡ true) → b ≡ false
+not_so true never = sym (never refl)
+not_so false never = refl
+
+pub no_utf8 : (bytes : List ℕ) → (IsUtf8 bytes → false ≡ true) → is_utf8 bytes ≡ false
+no_utf8 bytes never = not_so (is_utf8 bytes) (λ e. never (IsUtf8-from_is_utf8 bytes e))
