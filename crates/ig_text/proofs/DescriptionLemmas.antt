@@ -18,6 +18,7 @@ use Rattle.ig_text.proofs.RefusalLemmas.{Begins, bracket, brace, scalar_begins, 
 use Rattle.ig_text.proofs.ObjectTextLemmas.{items_reads, closes_bracket, closes_brace, optional_reads}
 use Rattle.ig_text.specs.DescriptionText.{slash, field_text, literal_text, schema_text, enum_text, braced, description_text, field_at, literal_at, ids_at, schema_at, enum_at, braced_at, adjacent_at, Lists, lists_at, Head, head_at, description_of, after_word, whole_at, is_in_order, description_at}
 use Rattle.ig_text.specs.FitsDescription.{FitsField, FitsLiteral, FitsSchema, FitsDescription}
+use Rattle.ig_text.specs.DescriptionLaws.{DescriptionTextTellsApart}
 
 -- ---- one after the other
 
@@ -208,3 +209,10 @@ description_reads =
     checked_reads is_in_order length (λ m. FitParts (parts_of m)) FitsDescription description_text Ends whole_at
     (λ m test fits. record { type = fits.0.0; name = fits.0.1.0; affinity = fits.0.1.1.0; fields = fits.1.0; literals = fits.1.1.0; schemas = fits.1.1.1; ordered = test })
     (λ m fits. (fits.ordered, ((fits.type, (fits.name, (fits.affinity, tt))), (fits.fields, (fits.literals, fits.schemas))))) whole_reads
+
+pub description_tells_apart : DescriptionTextTellsApart
+description_tells_apart m n fits also same =
+    let first = description_reads.again m [] fits tt in
+    let second = description_reads.again n [] also tt in
+    let both : done (m, []) ≡ done (n, []) = sym first ∙ ap (λ (l : List ℕ). description_at (l ++ [])) same ∙ second in
+    ap (λ (z : TypeMeta × List ℕ). z.0) (ok_is (m, []) (n, []) both)

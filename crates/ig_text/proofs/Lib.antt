@@ -12,3 +12,4 @@ pub mod ReaderLoopLemmas
 pub mod ReaderStopLemmas
 pub mod DescriptionLemmas
 pub mod ValueLemmas
+pub mod EntryLemmas

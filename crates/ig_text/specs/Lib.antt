@@ -7,3 +7,4 @@ pub mod ReaderAnswers
 pub mod PairText
 pub mod DescriptionText
 pub mod FitsDescription
+pub mod DescriptionLaws

@@ -1,5 +1,6 @@
 //! Laws of the texts. These functions do nothing; their contracts say what holds of every input.
 
+ghost use Rattle.ig_text.specs.DescriptionLaws.{DescriptionIsText, DescriptionIsRead, DescriptionTextTellsApart};
 ghost use Rattle.ig_text.specs.TextLaws.{ReadIsText, TextIsRead, TextTellsApart, ReadIsBounded};
 
 /// What is read from a text keeps to the limits, and its text stood there. The text of a value within
@@ -10,4 +11,13 @@ pub fn one_text()
     ensures again { TextIsRead }
     ensures apart { TextTellsApart }
     ensures bound { ReadIsBounded }
+{}
+
+/// What is read as a description of a type keeps to the limits, and its text stood there. The text of a
+/// description within the limits is read, whatever follows that a number can't go on with. Two
+/// descriptions have two texts.
+pub fn one_description()
+    ensures read { DescriptionIsText }
+    ensures again { DescriptionIsRead }
+    ensures apart { DescriptionTextTellsApart }
 {}

@@ -22,7 +22,7 @@ mod words;
 mod write;
 
 pub use fault::{ReadError, TextFault};
-pub use laws::one_text;
+pub use laws::{one_description, one_text};
 pub use parts::{LONGEST, ReadPart, counted, items};
 pub use put::{PutText, put_items, put_quoted};
 pub use read::{after, mark, natural, signed};

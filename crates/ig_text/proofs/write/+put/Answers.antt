@@ -2,13 +2,13 @@
 use Rattle.std.proofs.Common.{◌≡◌, ◌++◌, ◌∷◌, List, ℕ, map, sym, ap, ◌∙◌, arith}
 use Rattle.std.proofs.lemmas.List.{append-nil}
 use Rattle.std.proofs.lemmas.Result.{on_ok_weaker}
-use Rattle.ig_value.specs.declared.Code.TheVariants as code
-use Rattle.ig_value.specs.declared.Value.{Value}
-use Rattle.ig_value.specs.declared.Value.TheVariants as value
+use Rattle.ig_value.specs.declared.code.Code.TheVariants as code
+use Rattle.ig_value.specs.declared.value.Value.{Value}
+use Rattle.ig_value.specs.declared.value.Value.TheVariants as value
 use Rattle.ig_value.specs.Limits.{Depth, greatest, pair_depth}
 use Rattle.ig_value.specs.Table.{value_with}
 use Rattle.ig_value.proofs.DepthLemmas.{greatest_item, Depth_objects, Depth_collection, Depth_enums, Depth_map, Depth_object}
-use Rattle.ig_text.specs.declared.Row.TheVariants.{Kind}
+use Rattle.ig_text.specs.declared.row.Row.TheVariants.{Kind}
 use Rattle.ig_text.specs.Words.{word}
 use Rattle.ig_text.proofs.LevelLemmas.{text_row}
 use Rattle.ig_text.proofs.LoopLemmas.{opened}
