@@ -11,5 +11,7 @@ pub mod BoundLemmas
 pub mod ReaderLoopLemmas
 pub mod ReaderStopLemmas
 pub mod DescriptionLemmas
+pub mod OrderLemmas
 pub mod ValueLemmas
+pub mod WriteLemmas
 pub mod EntryLemmas

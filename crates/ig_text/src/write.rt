@@ -1,7 +1,7 @@
 //! Writing the text of a value.
 
 ghost use Rattle.std.specs.Prelude.{◌≡◌, ◌++◌, ◌∷◌, [], OnOk, OnErr};
-ghost use Rattle.ig_text.specs.Tokens.{open_bracket, close_bracket, close_brace, items_text};
+ghost use Rattle.ig_text.specs.Tokens.{comma, open_bracket, close_bracket, close_brace, until_text, items_text};
 ghost use Rattle.ig_text.specs.TextOf.{TextOf, entries, entry_text, head_text, object_text};
 ghost use Rattle.ig_text.specs.Words.{word as word_text, object_row};
 ghost use Rattle.ig_text.specs.declared.row.Row.TheVariants.{Kind};
@@ -224,7 +224,19 @@ fn put_entries(ids: &[i32], fields: &[Value], out: &mut Octets) -> Result<(), No
         return out.push(b'}');
     };
     put_entry(id, field, out)?;
-    for (id, field) in more_ids.iter().zip(more_fields) {
+    put_more_entries(more_ids, more_fields, out)
+}
+
+/// Appends fields after their identifiers, each after a comma, and the brace that closes the list.
+#[cycle(put)]
+fn put_more_entries(ids: &[i32], fields: &[Value], out: &mut Octets) -> Result<(), NoMemory>
+    ensures { OnOk result (out.new ≡ out.old ++ until_text close_brace
+        (λ entry. comma ∷ entry_text TextOf entry) (entries ids.now fields.now)) }
+{
+    for (index, id) in ids.iter().enumerate() {
+        let Some(field) = fields.get(index) else {
+            return out.push(b'}');
+        };
         out.push(b',')?;
         put_entry(id, field, out)?;
     }

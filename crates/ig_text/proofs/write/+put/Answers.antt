@@ -7,11 +7,12 @@ use Rattle.ig_value.specs.declared.value.Value.{Value}
 use Rattle.ig_value.specs.declared.value.Value.TheVariants as value
 use Rattle.ig_value.specs.Limits.{Depth, greatest, pair_depth}
 use Rattle.ig_value.specs.Table.{value_with}
-use Rattle.ig_value.proofs.DepthLemmas.{greatest_item, Depth_objects, Depth_collection, Depth_enums, Depth_map, Depth_object}
+use Rattle.ig_value.proofs.DepthLemmas.{Depth_objects, Depth_collection, Depth_enums, Depth_map, Depth_object}
 use Rattle.ig_text.specs.declared.row.Row.TheVariants.{Kind}
 use Rattle.ig_text.specs.Words.{word}
 use Rattle.ig_text.proofs.LevelLemmas.{text_row}
 use Rattle.ig_text.proofs.LoopLemmas.{opened}
+use Rattle.ig_text.proofs.WriteLemmas.{below_greatest, below_greatest_pair}
 use Rattle.ig_text.proofs.write.+put.Goals as goal
 
 pub put_value-returns-in-Byte : goal.put_value-returns-in-Byte
@@ -145,8 +146,8 @@ put_value-returns-in-Object t c =
     let is = c.in-Object.is ∙ ap value.Object (sym c.get.ensures) in
     on_ok_weaker c.put_object.result (λ e. e ∙ ap (λ (l : List ℕ). c.args.out.now ++ l) (sym (text_row c.args.value.now code.Object c.get.result.now is))) c.put_object.ensures
 
-pub put_value-returns-in-Objects : goal.put_value-returns-in-Objects
-put_value-returns-in-Objects t c =
+pub put_value-returns-in_ok-put_opened-in-Objects : goal.put_value-returns-in_ok-put_opened-in-Objects
+put_value-returns-in_ok-put_opened-in-Objects t c =
     let is = c.in-Objects.is ∙ ap (value.Objects c.in-Objects.type_id) (sym c.as_slice-in-Objects.ensures) in
     on_ok_weaker c.put_values.result
     (λ e. opened c.args.out.now c.put_opened.new.out c.put_values.new.out _ _ _ c.in_ok-put_opened.ensures e ∙ ap (λ (l : List ℕ). c.args.out.now ++ l) (sym (text_row c.args.value.now code.Objects (c.in-Objects.type_id, (tt, c.as_slice-in-Objects.result.now)) is))) c.put_values.ensures
@@ -157,8 +158,8 @@ put_value-put_values-requires t c =
     let same = ap (λ (l : List Value). greatest (map Depth l)) c.as_slice-in-Objects.ensures in
     (omega (arith, same), tt)
 
-pub put_value-returns-in-Collection : goal.put_value-returns-in-Collection
-put_value-returns-in-Collection t c =
+pub put_value-returns-in_ok-put_opened-in-Collection : goal.put_value-returns-in_ok-put_opened-in-Collection
+put_value-returns-in_ok-put_opened-in-Collection t c =
     let is = c.in-Collection.is ∙ ap (value.Collection c.in-Collection.kind) (sym c.as_slice-in-Collection.ensures) in
     on_ok_weaker c.put_values-in-Collection.result
     (λ e. opened c.args.out.now c.put_opened-in-Collection.new.out c.put_values-in-Collection.new.out _ _ _ c.in_ok-put_opened-in-Collection.ensures e ∙ ap (λ (l : List ℕ). c.args.out.now ++ l) (sym (text_row c.args.value.now code.Collection (c.in-Collection.kind, c.as_slice-in-Collection.result.now) is))) c.put_values-in-Collection.ensures
@@ -169,8 +170,8 @@ put_value-put_values-requires-in-Collection t c =
     let same = ap (λ (l : List Value). greatest (map Depth l)) c.as_slice-in-Collection.ensures in
     (omega (arith, same), tt)
 
-pub put_value-returns-in-Map : goal.put_value-returns-in-Map
-put_value-returns-in-Map t c =
+pub put_value-returns-in_ok-put_opened-in-Map : goal.put_value-returns-in_ok-put_opened-in-Map
+put_value-returns-in_ok-put_opened-in-Map t c =
     let is = c.in-Map.is ∙ ap (value.Map c.in-Map.kind) (sym c.as_slice-in-Map.ensures) in
     on_ok_weaker c.put_pairs.result
     (λ e. opened c.args.out.now c.put_opened-in-Map.new.out c.put_pairs.new.out _ _ _ c.in_ok-put_opened-in-Map.ensures e ∙ ap (λ (l : List ℕ). c.args.out.now ++ l) (sym (text_row c.args.value.now code.Map (c.in-Map.kind, c.as_slice-in-Map.result.now) is))) c.put_pairs.ensures
@@ -181,8 +182,8 @@ put_value-put_pairs-requires t c =
     let same = ap (λ (l : List (Value × Value)). greatest (map pair_depth l)) c.as_slice-in-Map.ensures in
     (omega (arith, same), tt)
 
-pub put_value-returns-in-Enums : goal.put_value-returns-in-Enums
-put_value-returns-in-Enums t c =
+pub put_value-returns-in_ok-put_opened-in-Enums : goal.put_value-returns-in_ok-put_opened-in-Enums
+put_value-returns-in_ok-put_opened-in-Enums t c =
     let is = c.in-Enums.is ∙ ap (value.Enums c.in-Enums.type_id) (sym c.as_slice-in-Enums.ensures) in
     on_ok_weaker c.put_values-in-Enums.result
     (λ e. opened c.args.out.now c.put_opened-in-Enums.new.out c.put_values-in-Enums.new.out _ _ _ c.in_ok-put_opened-in-Enums.ensures e ∙ ap (λ (l : List ℕ). c.args.out.now ++ l) (sym (text_row c.args.value.now code.Enums (c.in-Enums.type_id, (tt, c.as_slice-in-Enums.result.now)) is))) c.put_values-in-Enums.ensures
@@ -197,3 +198,9 @@ pub put_value-put_object-requires : goal.put_value-put_object-requires
 put_value-put_object-requires t c =
     let d = Depth_object c.args.value.now c.get.result.now (c.in-Object.is ∙ ap value.Object (sym c.get.ensures)) in
     (omega arith, tt)
+
+pub put_values-put_value-requires-in-loop-value : goal.put_values-put_value-requires-in-loop-value
+put_values-put_value-requires-in-loop-value t c = (below_greatest Depth c.args.values.now c.in-Some.rest.now c.in-Some.first.now c.loop-value.value-index _ c.in-Some.ensures.cases.0 c.loop-value-test.true, tt)
+
+pub put_pairs-put_pair-requires-in-loop-pair : goal.put_pairs-put_pair-requires-in-loop-pair
+put_pairs-put_pair-requires-in-loop-pair t c = (below_greatest_pair pair_depth c.args.pairs.now c.in-Some.rest.now c.in-Some.first.now c.loop-pair.pair-index _ c.in-Some.ensures.cases.0 c.loop-pair-test.true, tt)
