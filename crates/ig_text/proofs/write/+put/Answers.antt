@@ -9,10 +9,14 @@ use Rattle.ig_value.specs.Limits.{Depth, greatest, pair_depth}
 use Rattle.ig_value.specs.Table.{value_with}
 use Rattle.ig_value.proofs.DepthLemmas.{Depth_objects, Depth_collection, Depth_enums, Depth_map, Depth_object}
 use Rattle.ig_text.specs.declared.row.Row.TheVariants.{Kind}
+use Rattle.ig_value.specs.Part.{i8, i32}
+use Rattle.ig_text.specs.PairText.{pair_text}
+use Rattle.ig_text.specs.TextOf.{TextOf}
+use Rattle.ig_text.specs.Tokens.{close_bracket, scalar_text, items_text}
 use Rattle.ig_text.specs.Words.{word}
 use Rattle.ig_text.proofs.LevelLemmas.{text_row}
 use Rattle.ig_text.proofs.LoopLemmas.{opened}
-use Rattle.ig_text.proofs.WriteLemmas.{below_greatest, below_greatest_pair}
+use Rattle.ig_text.proofs.WriteLemmas.{later_within, item_within, entries_end}
 use Rattle.ig_text.proofs.write.+put.Goals as goal
 
 pub put_value-returns-in-Byte : goal.put_value-returns-in-Byte
@@ -150,7 +154,7 @@ pub put_value-returns-in_ok-put_opened-in-Objects : goal.put_value-returns-in_ok
 put_value-returns-in_ok-put_opened-in-Objects t c =
     let is = c.in-Objects.is ∙ ap (value.Objects c.in-Objects.type_id) (sym c.as_slice-in-Objects.ensures) in
     on_ok_weaker c.put_values.result
-    (λ e. opened c.args.out.now c.put_opened.new.out c.put_values.new.out _ _ _ c.in_ok-put_opened.ensures e ∙ ap (λ (l : List ℕ). c.args.out.now ++ l) (sym (text_row c.args.value.now code.Objects (c.in-Objects.type_id, (tt, c.as_slice-in-Objects.result.now)) is))) c.put_values.ensures
+    (λ e. opened c.args.out.now c.put_opened.new.out c.put_values.new.out (word (Kind code.Objects)) (scalar_text i32 c.in-Objects.type_id) (items_text close_bracket TextOf c.as_slice-in-Objects.result.now) c.in_ok-put_opened-in-Objects.ensures e ∙ ap (λ (l : List ℕ). c.args.out.now ++ l) (sym (text_row c.args.value.now code.Objects (c.in-Objects.type_id, (tt, c.as_slice-in-Objects.result.now)) is))) c.put_values.ensures
 
 pub put_value-put_values-requires : goal.put_value-put_values-requires
 put_value-put_values-requires t c =
@@ -162,7 +166,7 @@ pub put_value-returns-in_ok-put_opened-in-Collection : goal.put_value-returns-in
 put_value-returns-in_ok-put_opened-in-Collection t c =
     let is = c.in-Collection.is ∙ ap (value.Collection c.in-Collection.kind) (sym c.as_slice-in-Collection.ensures) in
     on_ok_weaker c.put_values-in-Collection.result
-    (λ e. opened c.args.out.now c.put_opened-in-Collection.new.out c.put_values-in-Collection.new.out _ _ _ c.in_ok-put_opened-in-Collection.ensures e ∙ ap (λ (l : List ℕ). c.args.out.now ++ l) (sym (text_row c.args.value.now code.Collection (c.in-Collection.kind, c.as_slice-in-Collection.result.now) is))) c.put_values-in-Collection.ensures
+    (λ e. opened c.args.out.now c.put_opened-in-Collection.new.out c.put_values-in-Collection.new.out (word (Kind code.Collection)) (scalar_text i8 c.in-Collection.kind) (items_text close_bracket TextOf c.as_slice-in-Collection.result.now) c.in_ok-put_opened-in-Collection.ensures e ∙ ap (λ (l : List ℕ). c.args.out.now ++ l) (sym (text_row c.args.value.now code.Collection (c.in-Collection.kind, c.as_slice-in-Collection.result.now) is))) c.put_values-in-Collection.ensures
 
 pub put_value-put_values-requires-in-Collection : goal.put_value-put_values-requires-in-Collection
 put_value-put_values-requires-in-Collection t c =
@@ -174,7 +178,7 @@ pub put_value-returns-in_ok-put_opened-in-Map : goal.put_value-returns-in_ok-put
 put_value-returns-in_ok-put_opened-in-Map t c =
     let is = c.in-Map.is ∙ ap (value.Map c.in-Map.kind) (sym c.as_slice-in-Map.ensures) in
     on_ok_weaker c.put_pairs.result
-    (λ e. opened c.args.out.now c.put_opened-in-Map.new.out c.put_pairs.new.out _ _ _ c.in_ok-put_opened-in-Map.ensures e ∙ ap (λ (l : List ℕ). c.args.out.now ++ l) (sym (text_row c.args.value.now code.Map (c.in-Map.kind, c.as_slice-in-Map.result.now) is))) c.put_pairs.ensures
+    (λ e. opened c.args.out.now c.put_opened-in-Map.new.out c.put_pairs.new.out (word (Kind code.Map)) (scalar_text i8 c.in-Map.kind) (items_text close_bracket pair_text c.as_slice-in-Map.result.now) c.in_ok-put_opened-in-Map.ensures e ∙ ap (λ (l : List ℕ). c.args.out.now ++ l) (sym (text_row c.args.value.now code.Map (c.in-Map.kind, c.as_slice-in-Map.result.now) is))) c.put_pairs.ensures
 
 pub put_value-put_pairs-requires : goal.put_value-put_pairs-requires
 put_value-put_pairs-requires t c =
@@ -186,7 +190,7 @@ pub put_value-returns-in_ok-put_opened-in-Enums : goal.put_value-returns-in_ok-p
 put_value-returns-in_ok-put_opened-in-Enums t c =
     let is = c.in-Enums.is ∙ ap (value.Enums c.in-Enums.type_id) (sym c.as_slice-in-Enums.ensures) in
     on_ok_weaker c.put_values-in-Enums.result
-    (λ e. opened c.args.out.now c.put_opened-in-Enums.new.out c.put_values-in-Enums.new.out _ _ _ c.in_ok-put_opened-in-Enums.ensures e ∙ ap (λ (l : List ℕ). c.args.out.now ++ l) (sym (text_row c.args.value.now code.Enums (c.in-Enums.type_id, (tt, c.as_slice-in-Enums.result.now)) is))) c.put_values-in-Enums.ensures
+    (λ e. opened c.args.out.now c.put_opened-in-Enums.new.out c.put_values-in-Enums.new.out (word (Kind code.Enums)) (scalar_text i32 c.in-Enums.type_id) (items_text close_bracket TextOf c.as_slice-in-Enums.result.now) c.in_ok-put_opened-in-Enums.ensures e ∙ ap (λ (l : List ℕ). c.args.out.now ++ l) (sym (text_row c.args.value.now code.Enums (c.in-Enums.type_id, (tt, c.as_slice-in-Enums.result.now)) is))) c.put_values-in-Enums.ensures
 
 pub put_value-put_values-requires-in-Enums : goal.put_value-put_values-requires-in-Enums
 put_value-put_values-requires-in-Enums t c =
@@ -200,7 +204,17 @@ put_value-put_object-requires t c =
     (omega arith, tt)
 
 pub put_values-put_value-requires-in-loop-value : goal.put_values-put_value-requires-in-loop-value
-put_values-put_value-requires-in-loop-value t c = (below_greatest Depth c.args.values.now c.in-Some.rest.now c.in-Some.first.now c.loop-value.value-index _ c.in-Some.ensures.cases.0 c.loop-value-test.true, tt)
+put_values-put_value-requires-in-loop-value t c =
+    let below = later_within Depth c.args.values.now c.in-Some.rest.now c.in-Some.first.now c.loop-value.value-index c.value-item.result c.in-Some.ensures.cases.0 c.loop-value-test.true c.value-item.is in
+    (omega (arith, below), tt)
 
 pub put_pairs-put_pair-requires-in-loop-pair : goal.put_pairs-put_pair-requires-in-loop-pair
-put_pairs-put_pair-requires-in-loop-pair t c = (below_greatest_pair pair_depth c.args.pairs.now c.in-Some.rest.now c.in-Some.first.now c.loop-pair.pair-index _ c.in-Some.ensures.cases.0 c.loop-pair-test.true, tt)
+put_pairs-put_pair-requires-in-loop-pair t c =
+    let below = later_within pair_depth c.args.pairs.now c.in-Some.rest.now c.in-Some.first.now c.loop-pair.pair-index c.pair-item.result c.in-Some.ensures.cases.0 c.loop-pair-test.true c.pair-item.is in
+    (omega (arith, below), tt)
+
+pub put_more_entries-returns-in_default : goal.put_more_entries-returns-in_default
+put_more_entries-returns-in_default t c = let e = c.in_default.ensures in let f = c.get.ensures in let h = c.loop-index-test.true in ?
+
+pub put_more_entries-put_entry-requires : goal.put_more_entries-put_entry-requires
+put_more_entries-put_entry-requires t c = let e = c.in-Some.ensures in ?
