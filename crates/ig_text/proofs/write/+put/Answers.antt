@@ -1,5 +1,5 @@
 -- Each row of the table, and the measures.
-use Rattle.std.proofs.Common.{◌≡◌, ◌++◌, ◌∷◌, List, ℕ, map, sym, ap, ◌∙◌, arith}
+use Rattle.std.proofs.Common.{◌≡◌, ◌++◌, ◌∷◌, List, ℕ, ℤ, map, sym, ap, ◌∙◌, arith}
 use Rattle.std.proofs.lemmas.List.{append-nil}
 use Rattle.std.proofs.lemmas.Result.{on_ok_weaker}
 use Rattle.ig_value.specs.declared.code.Code.TheVariants as code
@@ -11,8 +11,8 @@ use Rattle.ig_value.proofs.DepthLemmas.{Depth_objects, Depth_collection, Depth_e
 use Rattle.ig_text.specs.declared.row.Row.TheVariants.{Kind}
 use Rattle.ig_value.specs.Part.{i8, i32}
 use Rattle.ig_text.specs.PairText.{pair_text}
-use Rattle.ig_text.specs.TextOf.{TextOf}
-use Rattle.ig_text.specs.Tokens.{close_bracket, scalar_text, items_text}
+use Rattle.ig_text.specs.TextOf.{TextOf, entries, entry_text}
+use Rattle.ig_text.specs.Tokens.{comma, close_bracket, close_brace, scalar_text, until_text, items_text}
 use Rattle.ig_text.specs.Words.{word}
 use Rattle.ig_text.proofs.LevelLemmas.{text_row}
 use Rattle.ig_text.proofs.LoopLemmas.{opened}
@@ -214,7 +214,13 @@ put_pairs-put_pair-requires-in-loop-pair t c =
     (omega (arith, below), tt)
 
 pub put_more_entries-returns-in_default : goal.put_more_entries-returns-in_default
-put_more_entries-returns-in_default t c = let e = c.in_default.ensures in let f = c.get.ensures in let h = c.loop-index-test.true in ?
+put_more_entries-returns-in_default t c =
+    on_ok_weaker c.push.result
+    (λ e. e
+      ∙ entries_end close_brace (λ (entry : ℤ × Value). comma ∷ entry_text TextOf entry) c.args.ids.now c.args.fields.now c.loop-index.index c.loop-index.out
+      (c.args.out.now ++ until_text close_brace (λ (entry : ℤ × Value). comma ∷ entry_text TextOf entry) (entries c.args.ids.now c.args.fields.now)) c.in_default.ensures.lookup.3 c.loop-index.invariant) c.push.ensures.ok
 
 pub put_more_entries-put_entry-requires : goal.put_more_entries-put_entry-requires
-put_more_entries-put_entry-requires t c = let e = c.in-Some.ensures in ?
+put_more_entries-put_entry-requires t c =
+    let below = item_within Depth c.args.fields.now c.loop-index.index c.in-Some.field.now c.in-Some.ensures.lookup.3.0 c.in-Some.ensures.lookup.1 in
+    (omega (arith, below), tt)
