@@ -185,6 +185,16 @@ with_own (first ∷ caches) id cache is = elim (cases_Bool (has_id id first)) [
       cond-false (has_id id first) _ _ later ∙ ap (λ (cs : List Cache). first ∷ cs) (with_own caches id cache (sym (cond-false (has_id id first) _ _ later) ∙ is))
 ]
 
+-- where there is no such cache, no rows are other ones
+pub none_written : (caches : List Cache) (id : ℤ) (rows : Rows) → cache_of caches id ≡ None → caches_with_rows caches id rows ≡ caches
+none_written [] id rows none = refl
+none_written (first ∷ caches) id rows none = elim (cases_Bool (has_id id first)) [
+  | inl here ↦ let never : Some first ≡ None = sym (cond-true (has_id id first) _ _ here) ∙ none in absurd (cc)
+  | inr later ↦
+      cond-false (has_id id first) _ _ later
+      ∙ ap (λ (cs : List Cache). first ∷ cs) (none_written caches id rows (sym (cond-false (has_id id first) _ _ later) ∙ none))
+]
+
 -- a call on the rows of a cache does what it does with these rows
 pub on_rows_of : (c : PlainCaches) (e : Effect) (id : ℤ) (cache : Cache) (outcome : Outcome) (rows : Rows) → IsOnRowsOf id e → cache_of c.caches id ≡ Some cache
     → OnRows e (λ f. (outcome, rows) ≡ f cache.rows) → ran c e ≡ (outcome, record c { caches = caches_with_rows c.caches id rows })

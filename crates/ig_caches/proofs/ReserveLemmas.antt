@@ -228,7 +228,7 @@ reserves_nothing most old now all = same_rows now old (λ q. elim (all q) [
 
 -- ---- writing
 -- rows that differ under the keys of the pairs alone are the same after the pairs are put
-same_written : (pairs : List Pair) (rows others : Rows) → ((q : List ℕ) → (finite.get rows q ≡ finite.get others q) ⊎ (has_key pairs q ≡ true)) → with_rows rows pairs ≡ with_rows others pairs
+pub same_written : (pairs : List Pair) (rows others : Rows) → ((q : List ℕ) → (finite.get rows q ≡ finite.get others q) ⊎ (has_key pairs q ≡ true)) → with_rows rows pairs ≡ with_rows others pairs
 same_written [] rows others all = same_rows rows others (λ q. elim (all q) [
   | inl same ↦ same
   | inr named ↦ absurd (cc)

@@ -1,8 +1,10 @@
 pub mod Rows
 pub mod RowEntries
 pub mod Reserved
+pub mod LentRows
 pub mod PlainCaches
 pub mod Effect
+pub mod RowsAt
 pub mod RunsOnRows
 pub mod Answered
 pub mod IsRunnable

@@ -1,6 +1,6 @@
 //! Caches in the order of their creation, and the calls on all of them.
 
-ghost use Rattle.std.specs.Prelude.{◌≡◌, None, map, if◌then◌else◌, IfOk, IfErr, OnErr};
+ghost use Rattle.std.specs.Prelude.{◌≡◌, ℕ, List, None, map, if◌then◌else◌, IsOk, IsTrue, IsFalse, IfOk, IfErr, OnOk, OnErr};
 ghost use Rattle.ig_caches.specs.declared.call.Call.TheVariants.{Names, Create, GetOrCreate, Destroy};
 ghost use Rattle.ig_types.specs.Join.{same_name};
 ghost use Rattle.ig_caches.specs.declared.answer.Outcome.TheVariants as outcome;
@@ -39,7 +39,7 @@ pub struct Caches {
 }
 
 /// A copy of the text.
-pub(crate) fn copy_text(alloc: Global, text: &Text) -> Result<Text, NoMemory>
+pub fn copy_text(alloc: Global, text: &Text) -> Result<Text, NoMemory>
     ensures { IfOk result (λ copy. copy ≡ text.now) }
 {
     Ok(Text::new(String::from_str(alloc, text.as_str())?))
@@ -85,10 +85,12 @@ fn outcome_of_standing(same: bool) -> Outcome
 
 impl Caches {
     ghost use Rattle.ig_caches.specs.RunsOn.{RunsOn};
-    ghost use Rattle.ig_caches.specs.CachesView.{plain_caches};
+    ghost use Rattle.ig_caches.specs.CachesView.{plain_caches, HasRoom};
 
-    pub(crate) fn destroy(&mut self, cache: i32) -> Result<Answer, NoRoom<Call>>
-        ensures { RunsOn (Destroy cache) (plain_caches self.old) result (plain_caches self.new) }
+    /// Removes a cache with its rows, as the call `Destroy` does. Takes no memory, so it never fails.
+    pub fn destroy(&mut self, cache: i32) -> Result<Answer, NoRoom<Call>>
+        ensures runs { RunsOn (Destroy cache) (plain_caches self.old) result (plain_caches self.new) }
+        ensures sure { IsOk result }
     {
         let minor = self.minor;
         if !self.caches.contains_key(&cache) {
@@ -102,10 +104,31 @@ impl Caches {
         Ok(self.answer(Outcome::Done))
     }
 
-    // Adds a cache whose identifier isn't taken.
-    fn add(&mut self, id: i32, name: Text) -> Result<Outcome, NoRoom<Text>>
+    /// Takes the memory for one more cache.
+    pub fn make_room(&mut self) -> Result<(), NoMemory>
+        ensures ok { OnOk result (HasRoom self.new) }
+        ensures same { plain_caches self.new ≡ plain_caches self.old }
+    {
+        self.caches.reserve(1)?;
+        Ok(())
+    }
+
+    /// Whether one more cache may stand, and its creation may be counted. Takes no memory.
+    pub fn can_add(&self) -> bool
+        ensures yes { IsTrue result → (name : List ℕ) → (created (plain_caches self.now) name).0 ≡ outcome.Done }
+        ensures no { IsFalse result → (name : List ℕ) → (created (plain_caches self.now) name).1 ≡ plain_caches self.now }
+    {
+        if self.caches.len() >= MAX_CACHES {
+            return false;
+        }
+        next_count(self.minor).is_some()
+    }
+
+    /// Adds a cache whose identifier isn't taken. Takes no memory where there is room for it.
+    pub fn add(&mut self, id: i32, name: Text) -> Result<Outcome, NoRoom<Text>>
         requires its_id { id ≡ id_of name }
         requires absent { cache_of (plain_caches self.old).caches id ≡ None }
+        ensures sure { HasRoom self.old → IsOk result }
         ensures ok { IfOk result (λ outcome.
             (outcome, plain_caches self.new) ≡ created (plain_caches self.old) name) }
         ensures back { IfErr result (λ e. e.back ≡ name) }
@@ -183,7 +206,8 @@ impl Caches {
         }
     }
 
-    pub(crate) fn answer(&self, outcome: Outcome) -> Answer
+    /// The outcome, with how often caches were created and destroyed.
+    pub fn answer(&self, outcome: Outcome) -> Answer
         ensures minor { result.minor ≡ self.now.minor }
         ensures outcome { result.outcome ≡ outcome }
     {

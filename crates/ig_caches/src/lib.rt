@@ -19,13 +19,12 @@ mod table;
 mod type_calls;
 
 pub use answer::{Answer, Outcome, Why};
-pub use caches::Caches;
+pub use caches::{Caches, copy_text};
 pub use call::{Call, Pair};
 pub use exec::Exec;
 pub use fault::StartFault;
 pub use laws::{answers_fit, keys_are_apart, scans_are_whole};
 pub use request::{Page, Request, Shown};
+pub use row_many::count_all;
 pub use row_map::RowMap;
-
-#[cfg(test)]
-mod tests;
+pub use table::{Forms, copy_row};

@@ -22,8 +22,8 @@ fn names_all(modes: &[u8]) -> bool
     modes.iter().any(|mode| *mode == 0 || *mode == 2)
 }
 
-/// Whether the modes ask for all rows.
-fn count_all(modes: &[u8]) -> bool
+/// Whether the modes ask for all rows. Takes no memory.
+pub fn count_all(modes: &[u8]) -> bool
     ensures { result ≡ asks_for_all modes.now }
 {
     if modes.is_empty() {

@@ -50,6 +50,7 @@ impl Model for RowMap {
 impl RowMap {
     ghost use Rattle.std.specs.FinMap as map;
     ghost use Rattle.ig_caches.specs.RowEntries.{is_among};
+    ghost use Rattle.ig_caches.specs.LentRows.{lent_rows, HasKey};
     ghost use Rattle.ig_caches.specs.Rows.{row_of, value_of, has_row, with_row, without_row, with_rows, rows_of, all_rows};
     ghost use Rattle.ig_caches.specs.Effect.{is_wanted};
 
@@ -170,8 +171,9 @@ impl RowMap {
         table::has_value(&self.rows, &self.room[..len], wanted)
     }
 
-    /// A copy of the row of the key, if it has one whose encoding wasn't met before.
-    fn new_row(&mut self, key: &Value, met: &mut Forms) -> Result<Option<Pair>, NoMemory>
+    /// A copy of the row of the key, if it has one whose encoding wasn't met before. Then it has been
+    /// met.
+    pub fn new_row(&mut self, key: &Value, met: &mut Forms) -> Result<Option<Pair>, NoMemory>
         requires { IsItem key.now }
         ensures row { IfOk result (λ row. row
             ≡ (if is_among (λ k. k.items) met.old.keys (Canon key.now) then None else row_of self.old key.now)) }
@@ -232,6 +234,14 @@ impl RowMap {
         ensures { IfOk result (λ rows. rows ≡ all_rows self.now) }
     {
         Ok(Items::new(table::copy_all(self.alloc, &self.rows)?))
+    }
+
+    /// The rows in the order of the canonical encodings of their keys: these bytes, and the value.
+    pub fn entries(&self) -> Result<Vec<(&[u8], &Value)>, NoMemory>
+        ensures rows { IfOk result (λ rows. lent_rows rows.items ≡ map.entries self.now) }
+        ensures keys { IfOk result (λ rows. All HasKey rows.items) }
+    {
+        table::entries(self.alloc, &self.rows)
     }
 
     /// Removes all rows. Takes no memory.

@@ -7,6 +7,7 @@ ghost use Rattle.ig_caches.specs.RunsOnRows.{IsOnRows, RunsOnRows, TakesNoMemory
 ghost use Rattle.ig_caches.specs.RunsOn.{RunsOn};
 ghost use Rattle.ig_caches.specs.CachesView.{plain_caches};
 ghost use Rattle.ig_caches.specs.Answered.{answered, after};
+ghost use Rattle.ig_caches.specs.RowsAt.{rows_at, with_rows_of};
 
 use crate::answer::{Answer, Outcome, Why};
 use crate::caches::Caches;
@@ -14,6 +15,7 @@ use crate::call::Call;
 use crate::exec::Exec;
 use crate::row_map::RowMap;
 use ig_base::NoRoom;
+use std::mem;
 
 impl Call {
     /// The identifier of the cache on whose rows the call runs, or none if it runs on all caches.
@@ -139,6 +141,18 @@ impl Caches {
         match cache.rows.run(call) {
             Ok(outcome) => Ok(Answer { minor, outcome }),
             Err(e) => Err(e),
+        }
+    }
+}
+
+impl Caches {
+    /// Swaps the rows of the cache with these. Without such a cache it does nothing. Takes no memory.
+    pub fn swap_rows(&mut self, cache: i32, rows: &mut RowMap)
+        ensures taken { rows.new ≡ rows_at (plain_caches self.old).caches cache rows.old }
+        ensures given { plain_caches self.new ≡ with_rows_of (plain_caches self.old) cache rows.old }
+    {
+        if let Some(standing) = self.caches.get_mut(&cache) {
+            mem::swap(&mut standing.rows, rows);
         }
     }
 }

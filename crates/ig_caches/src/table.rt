@@ -1,12 +1,13 @@
 //! Rows in a map: the value of each under the canonical encoding of its key.
 
-ghost use Rattle.std.specs.Prelude.{◌≡◌, ℕ, List, ◌&&◌, ◌||◌, Some, None, option_map, is_some, if◌then◌else◌, IfOk, IfErr, OnOk, OnErr};
+ghost use Rattle.std.specs.Prelude.{◌≡◌, ℕ, List, All, ◌&&◌, ◌||◌, Some, None, option_map, is_some, if◌then◌else◌, IfOk, IfErr, OnOk, OnErr};
 ghost use Rattle.std.specs.Cmp.Lexicographic.{slice_cmp};
 ghost use Rattle.std.specs.Ordering.{nat_cmp, eq_by_cmp};
 ghost use Rattle.std.specs.FinMap as map;
 ghost use Rattle.ig_value.specs.Spells.{Spells};
 ghost use Rattle.ig_caches.specs.Effect.{is_wanted};
 ghost use Rattle.ig_caches.specs.IsRunnable.{IsItem};
+ghost use Rattle.ig_caches.specs.LentRows.{lent_rows, HasKey};
 ghost use Rattle.ig_caches.specs.RowEntries.{key_of, row_under, rows_of_entries, AreKept, is_among};
 
 use crate::call::Pair;
@@ -21,7 +22,7 @@ use std::mem;
 pub(crate) type Table = BTreeMap<Vec<u8>, Value>;
 
 /// Canonical encodings that were met.
-pub(crate) type Forms = BTreeSet<Vec<u8>>;
+pub type Forms = BTreeSet<Vec<u8>>;
 
 /// A copy of the value under these bytes.
 pub(crate) fn copy_value(
@@ -151,8 +152,22 @@ fn with_copy(alloc: Global, key: Value, value: &Value) -> Result<Pair, NoMemory>
     }
 }
 
+/// The rows in the order of their bytes: these, and the value.
+pub(crate) fn entries(alloc: Global, rows: &Table) -> Result<Vec<(&[u8], &Value)>, NoMemory>
+    requires { (most : ℕ) × AreKept most (rows_of_entries (λ k. k.items) rows.now.entries) }
+    ensures rows { IfOk result (λ lent.
+        lent_rows lent.items ≡ map.entries (rows_of_entries (λ k. k.items) rows.now.entries)) }
+    ensures keys { IfOk result (λ lent. All HasKey lent.items) }
+{
+    let mut entries = Vec::with_capacity(alloc, rows.len())?;
+    for (form, value) in rows.iter() {
+        entries.push((form.as_slice(), value))?;
+    }
+    Ok(entries)
+}
+
 /// A copy of the row of this value, whose key is read from its encoding.
-fn copy_row(alloc: Global, form: &[u8], value: &Value) -> Result<Pair, NoMemory>
+pub fn copy_row(alloc: Global, form: &[u8], value: &Value) -> Result<Pair, NoMemory>
     requires { Spells form.now (key_of form.now) }
     ensures { IfOk result (λ row. row ≡ row_under form.now value.now) }
 {

@@ -82,8 +82,8 @@ impl Caches {
         }
     }
 
-    /// Whether a cache has the identifier.
-    fn has(&self, id: i32) -> bool
+    /// Whether a cache has the identifier. Takes no memory.
+    pub fn has(&self, id: i32) -> bool
         ensures { result ≡ list_any (has_id id) (plain_caches self.now).caches }
     {
         self.caches.contains_key(&id)

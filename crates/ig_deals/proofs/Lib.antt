@@ -7,4 +7,5 @@ pub mod DeskLemmas
 pub mod CutLemmas
 pub mod TakeLemmas
 pub mod PieceLemmas
+pub mod RowLemmas
 mod WorkedSessions

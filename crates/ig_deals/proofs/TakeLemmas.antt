@@ -1,12 +1,14 @@
 -- The place of an open cursor, and the cursors without it.
 use Rattle.std.proofs.Common.{None, Some, ◌≡◌, ℕ, suc, ◌+◌, ◌<◌, ℤ, pos, Bool, true, false, if◌then◌else◌, List, [], ◌∷◌, ◌++◌, length, take, drop, refl, sym, ap, ◌∙◌, subst, arith, inl, inr}
-use Rattle.std.specs.Prelude.{slice_index_or}
+use Rattle.std.specs.Prelude.{slice_index_or, slice_set, option_map}
 use Rattle.std.specs.List.{position_from}
 use Rattle.std.proofs.lemmas.Iterator.Adapters.{position_from-zero}
+use Rattle.std.proofs.lemmas.List.{length-set, take_all, take-append-le, get_or-set_same, take-set, drop-set-lt}
 use Rattle.std.specs.Ordering.{int_eq}
 use Rattle.std.proofs.lemmas.Bool.{cases_Bool, cond-true, cond-false}
 use Rattle.std.proofs.lemmas.Bool.Decides.{Decides-int_eq}
-use Rattle.ig_deals.specs.Desk.{Cursor, has_number, cursor_at, without, AreApart, place_of_number}
+use Rattle.ig_caches.specs.declared.request.Page.{Page}
+use Rattle.ig_deals.specs.Desk.{Cursor, has_number, page_shown, after_page, paged, cursor_at, without, AreApart, place_of_number}
 use Rattle.ig_deals.proofs.CursorLemmas.{head-true, head-false, found-append, alone_none, without_none, without_other}
 
 -- ---- cursors of which none has the number
@@ -19,7 +21,7 @@ head_other k x xs e = elim (cases_Bool (has_number k x)) [
   clash : {c : Cursor} → Some c ≡ None → ⊥
   clash h = cc
 
-without_absent : (k : ℤ) (cs : List Cursor) → cursor_at cs k ≡ None → without cs k ≡ cs
+pub without_absent : (k : ℤ) (cs : List Cursor) → cursor_at cs k ≡ None → without cs k ≡ cs
 without_absent k [] e = refl
 without_absent k (x ∷ xs) e =
     let other : (has_number k x ≡ false) × (cursor_at xs k ≡ None) = head_other k x xs e in
@@ -92,6 +94,47 @@ place_none k cs e = none_from k cs 0 (sym (position_from-zero (has_number k) cs)
 
 pub place_same : (k : ℤ) (cs : List Cursor) → place_of_number cs k ≡ None → without cs k ≡ cs
 place_same k cs e = without_absent k cs (place_none k cs e)
+
+-- ---- a page taken out of the cursor at the place
+
+-- the cursors after a loan of them, in a vector of n
+abbrev pub lent_back : ℕ → List Cursor → List Cursor → List Cursor
+lent_back n new cs = take n (new ++ drop (length new) cs)
+
+pub page_lent : (cs lent new : List Cursor) (n at : ℕ) → lent ≡ cs → length cs ≡ n
+    → ((d : Cursor) → new ≡ slice_set lent at (after_page (slice_index_or lent at d)))
+    → (d : Cursor) → lent_back n new cs ≡ slice_set cs at (after_page (slice_index_or cs at d))
+page_lent cs lent new n at lent_is long new_is d =
+    let after : Cursor = after_page (slice_index_or cs at d) in
+    let is : new ≡ slice_set cs at after =
+    new_is d ∙ ap (λ (l : List Cursor). slice_set l at (after_page (slice_index_or l at d))) lent_is in
+    let same : length new ≡ n = ap length is ∙ length-set cs at after ∙ long in
+    take-append-le n new (drop (length new) cs) (omega (arith, same)) ∙ take_all n new (omega (arith, same)) ∙ is
+
+-- the page, and the cursor after it
+pub page_taken : (k : ℤ) (cs new : List Cursor) (at : ℕ) (page : Page) (left : Cursor) → place_of_number cs k ≡ Some at
+    → ((d : Cursor) → page ≡ page_shown None (slice_index_or cs at d))
+    → ((d : Cursor) → new ≡ slice_set cs at (after_page (slice_index_or cs at d)))
+    → left ≡ slice_index_or new at left
+    → Some (page, left) ≡ option_map paged (cursor_at cs k)
+page_taken k cs new at page left place page_is new_is left_is =
+    let here : Cursor = slice_index_or cs at left in
+    let after : left ≡ after_page here =
+    left_is ∙ ap (λ (l : List Cursor). slice_index_or l at left) (new_is left)
+    ∙ get_or-set_same cs at (after_page here) left (place_within k cs at place) in
+    ap (λ (p : Page). Some (p, left)) (page_is left) ∙ ap (λ (c : Cursor). Some (page_shown None here, c)) after
+    ∙ sym (ap (option_map paged) (place_found k cs at place left))
+
+-- the other cursors
+pub page_left : (k : ℤ) (cs new : List Cursor) (at : ℕ) (left : Cursor) → place_of_number cs k ≡ Some at → AreApart cs
+    → ((d : Cursor) → new ≡ slice_set cs at (after_page (slice_index_or cs at d)))
+    → take at new ++ drop (at + 1) new ≡ without cs k
+page_left k cs new at left place apart new_is =
+    let after : Cursor = after_page (slice_index_or cs at left) in
+    ap (λ (l : List Cursor). take at l ++ drop (at + 1) l) (new_is left)
+    ∙ ap (λ (l : List Cursor). l ++ drop (at + 1) (slice_set cs at after)) (take-set cs at after)
+    ∙ ap (λ (l : List Cursor). take at cs ++ l) (drop-set-lt (at + 1) cs at after (omega arith))
+    ∙ sym (place_left k cs at place apart)
 
 -- ---- no two have one number
 

@@ -4,6 +4,7 @@ use Rattle.std.specs.Prelude.{◌≡◌, ℕ, ℤ, pos, Bool, List, [], ◌∷�
 use Rattle.std.specs.List.{position}
 use Rattle.std.specs.Ordering.{int_eq}
 use Rattle.ig_caches.specs.declared.call.Pair.{Pair}
+use Rattle.ig_caches.specs.declared.request.Page.{Page}
 
 -- an open cursor: its number, how many rows a page of it has, and the rows that weren't shown yet
 pub record Cursor : Type 0 where
@@ -32,9 +33,17 @@ page_of cursor = take cursor.page cursor.rows
 abbrev pub has_more : Cursor → Bool
 has_more cursor = nat_lt cursor.page (length cursor.rows)
 
+-- the next page as it is shown; the first one has the cursor's number
+abbrev pub page_shown : Option ℤ → Cursor → Page
+page_shown number cursor = record { cursor = number; rows = page_of cursor; more = has_more cursor }
+
 -- the cursor after its next page
 abbrev pub after_page : Cursor → Cursor
 after_page cursor = record cursor { rows = drop cursor.page cursor.rows }
+
+-- a page after the first one, and the cursor after it
+abbrev pub paged : Cursor → Page × Cursor
+paged cursor = (page_shown None cursor, after_page cursor)
 
 -- ---- open cursors
 

@@ -20,7 +20,7 @@ use Rattle.ig_deals.specs.declared.cfg.SessionCfg.{SessionCfg}
 use Rattle.ig_deals.specs.declared.manner.Manner.{Manner}
 use Rattle.ig_deals.specs.Faults.{fault_of, reason_of}
 use Rattle.ig_deals.specs.Deals.{Got, Had, NoMemory, Deal}
-use Rattle.ig_deals.specs.Desk.{Cursor, Desk, page_of, has_more, after_page, cursor_at, without}
+use Rattle.ig_deals.specs.Desk.{Cursor, Desk, page_shown, has_more, after_page, cursor_at, without}
 use Rattle.ig_deals.specs.Telling.{topology, tells, told_after}
 use Rattle.ig_deals.specs.Replies.{Content, Shows, Maps, Fails, Reply, fits, shortened}
 
@@ -83,7 +83,7 @@ run_turn terms desk id call None = no_memory terms desk id
 
 -- the next page of a cursor; the first one has the cursor's number
 abbrev pub page_content : Option ℤ → Cursor → Content
-page_content number cursor = Shows (Page (record { cursor = number; rows = page_of cursor; more = has_more cursor }))
+page_content number cursor = Shows (Page (page_shown number cursor))
 
 -- a cursor is open after a page exactly where rows are left and a frame can hold the page
 abbrev pub open_after : Version → Reply → Cursor → List Cursor

@@ -1,11 +1,12 @@
 //! What a session remembers between its requests.
 
-ghost use Rattle.std.specs.Prelude.{◌≡◌};
-ghost use Rattle.ig_deals.specs.Desk.{place_of_number};
+ghost use Rattle.std.specs.Prelude.{◌≡◌, ◌<◌, None, length, slice_index_or, slice_set, IfOk, OnOk, OnErr};
+ghost use Rattle.ig_deals.specs.Desk.{Cursor, place_of_number, page_shown, after_page};
 
 use crate::manner::Manner;
 use crate::open_cursor::OpenCursor;
 use ig_base::{NoMemory, Topology};
+use ig_caches::Page;
 use ig_wire::OPEN_CURSORS;
 use std::alloc::Global;
 use std::marker::Model;
@@ -43,10 +44,29 @@ fn index_of(cursors: &[OpenCursor], number: i64) -> Option<usize>
     cursors.iter().position(|cursor| cursor.has_number(number))
 }
 
+/// Takes the next page, which isn't the first, out of the cursor at an index. On an error the cursors are
+/// as before.
+fn page_at(cursors: &mut [OpenCursor], index: usize) -> Result<Page, NoMemory>
+    requires { index < length cursors.old }
+    ensures page { IfOk result (λ page. (d : Cursor) → page ≡ page_shown None (slice_index_or cursors.old index d)) }
+    ensures left { OnOk result ((d : Cursor) → cursors.new
+        ≡ slice_set cursors.old index (after_page (slice_index_or cursors.old index d))) }
+    ensures err { OnErr result (cursors.new ≡ cursors.old) }
+{
+    let cursor = &mut cursors[index];
+    let more = cursor.has_more();
+    let rows = cursor.take_page()?;
+    Ok(Page {
+        cursor: None,
+        rows,
+        more,
+    })
+}
+
 impl Desk {
-    ghost use Rattle.std.specs.Prelude.{◌≡◌, pos, None, ◌<◌, ◌^◌, ◌++◌, [], ◌∷◌, suc, length, nat_le, IfOk};
+    ghost use Rattle.std.specs.Prelude.{◌≡◌, pos, None, ◌<◌, ◌^◌, ◌++◌, [], ◌∷◌, suc, length, nat_le, option_map, IfOk, OnOk, OnErr};
     ghost use Rattle.ig_wire.specs.Limits.{most_cursors};
-    ghost use Rattle.ig_deals.specs.Desk.{fresh_desk, cursor_at, without};
+    ghost use Rattle.ig_deals.specs.Desk.{fresh_desk, cursor_at, without, paged};
     ghost use Rattle.ig_deals.specs.Telling.{tells, told_after};
 
     /// A desk without cursors, of which the first gets the number 1; nothing was told. It takes the room
@@ -101,6 +121,26 @@ impl Desk {
         match index_of(&self.cursors, number) {
             Some(index) => Some(self.cursors.remove(index)),
             None => None,
+        }
+    }
+
+    /// Takes the next page, which isn't the first, out of the open cursor with a number, and this cursor out
+    /// of the others, if there is one. On an error the desk is as before.
+    ///
+    /// # Errors
+    ///
+    /// [`NoMemory`] if there is none for the rows of the page.
+    pub fn take_page(&mut self, number: i64) -> Result<Option<(Page, OpenCursor)>, NoMemory>
+        ensures page { IfOk result (λ taken. taken ≡ option_map paged (cursor_at self.old.cursors number)) }
+        ensures left { OnOk result (self.new ≡ record self.old { cursors = without self.old.cursors number }) }
+        ensures err { OnErr result (self.new ≡ self.old) }
+    {
+        match index_of(&self.cursors, number) {
+            Some(index) => {
+                let page = page_at(&mut self.cursors, index)?;
+                Ok(Some((page, self.cursors.remove(index))))
+            }
+            None => Ok(None),
         }
     }
 

@@ -35,6 +35,3 @@ pub use laws::{
 pub use manner::Manner;
 pub use open_cursor::OpenCursor;
 pub use pieces::{piece_len, pieces_follow};
-
-#[cfg(test)]
-mod tests;

@@ -1,22 +1,22 @@
 //! An open cursor of a session.
 
-use ig_base::Items;
+use ig_base::{Items, NoMemory};
 use ig_caches::Pair;
 use std::marker::Model;
 
-/// An open cursor: the rows of a scan, of which the first ones were shown.
+/// An open cursor: the rows of a scan that weren't shown yet.
 ///
 /// Contracts see the cursor's number, how many rows a page of it has, and the rows that weren't shown.
+/// They are kept in reverse, so that a page is cut off the end.
 #[derive(Drop)]
 pub struct OpenCursor {
     number: u64,
     page: u32,
-    rows: Items<Pair>,
-    shown: usize,
+    left: Vec<Pair>,
 }
 
 impl Model for OpenCursor {
-    ghost use Rattle.std.specs.Prelude.{drop, length, ◌≤◌};
+    ghost use Rattle.std.specs.Prelude.{reverse};
     ghost use Rattle.std.specs.Coded.{codes};
     ghost use Rattle.ig_value.specs.contracts.value.Value as value;
     ghost use Rattle.ig_deals.specs.Desk.{Cursor};
@@ -25,25 +25,20 @@ impl Model for OpenCursor {
 
     ghost coded = { Prim.hlevel (codes, value.the_row.coded) };
 
-    ghost view = { λ c. record { number = c.number; page = c.page; rows = drop c.shown c.rows } };
-
-    ghost invariant = { λ c. c.shown ≤ length c.rows };
+    ghost view = { λ c. record { number = c.number; page = c.page; rows = reverse c.left.items } };
 }
 
 impl OpenCursor {
-    ghost use Rattle.std.specs.Prelude.{◌≡◌};
+    ghost use Rattle.std.specs.Prelude.{◌≡◌, IfOk, OnOk, OnErr};
     ghost use Rattle.ig_deals.specs.Desk.{has_number, page_of, has_more, after_page};
 
     /// A cursor of which no row was shown. Takes no memory.
     pub fn new(number: u64, page: u32, rows: Items<Pair>) -> OpenCursor
         ensures { result ≡ record { number = number; page = page; rows = rows } }
     {
-        OpenCursor {
-            number,
-            page,
-            rows,
-            shown: 0,
-        }
+        let mut left = rows.into_std();
+        left.reverse();
+        OpenCursor { number, page, left }
     }
 
     /// The cursor's number.
@@ -63,33 +58,22 @@ impl OpenCursor {
         }
     }
 
-    /// The rows of the next page.
-    pub fn next_page(&self) -> &[Pair]
-        ensures { result.now ≡ page_of self.now }
-    {
-        let left = &self.rows.as_slice()[self.shown..];
-        let page = self.page as usize;
-        if page < left.len() {
-            &left[..page]
-        } else {
-            left
-        }
-    }
-
     /// Whether rows are left after the next page.
     pub fn has_more(&self) -> bool
         ensures { result ≡ has_more self.now }
     {
-        let left = self.rows.as_slice().len() - self.shown;
-        (self.page as usize) < left
+        (self.page as usize) < self.left.len()
     }
 
-    /// Passes the next page. Takes no memory.
-    pub fn pass_page(&mut self)
-        ensures { self.new ≡ after_page self.old }
+    /// Takes the rows of the next page out of the cursor. On an error the cursor is as before.
+    pub fn take_page(&mut self) -> Result<Items<Pair>, NoMemory>
+        ensures page { IfOk result (λ rows. rows ≡ page_of self.old) }
+        ensures left { OnOk result (self.new ≡ after_page self.old) }
+        ensures err { OnErr result (self.new ≡ self.old) }
     {
-        let left = self.rows.as_slice().len() - self.shown;
-        let page = self.page as usize;
-        self.shown += if page < left { page } else { left };
+        let kept = self.left.len().saturating_sub(self.page as usize);
+        let mut rows = self.left.split_off(kept)?;
+        rows.reverse();
+        Ok(Items::new(rows))
     }
 }

@@ -30,6 +30,3 @@ pub use count::StatedCount;
 pub use fault::{DecodeFault, Refusal};
 pub use ig_value::Cause;
 pub use text::text_at;
-
-#[cfg(test)]
-mod tests;

@@ -50,8 +50,3 @@ pub use output::Output;
 pub use spell::put_count;
 pub use values::ValueOutput;
 pub use window::Window;
-
-#[cfg(test)]
-mod object_tests;
-#[cfg(test)]
-mod tests;

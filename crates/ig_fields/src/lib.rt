@@ -31,6 +31,3 @@ pub use message::{Message, append_message, message_len, message_part};
 pub use numbers::Within;
 pub use objects::is_null;
 pub use parts::UnlessNull;
-
-#[cfg(test)]
-mod tests;

@@ -30,6 +30,3 @@ mod type_fields;
 pub use asks::{read_fields, write_ask};
 pub use laws::{meta_asks_agree, meta_results_agree, read_types_are_in_order};
 pub use results::{read_result, result_len, result_part, write_result};
-
-#[cfg(test)]
-mod tests;

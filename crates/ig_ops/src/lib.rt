@@ -35,6 +35,3 @@ pub use page_mark::PageMark;
 pub use pages::{page_from, page_len, page_part};
 pub use results::{read_result, result_len, result_part, write_result};
 pub use shown_body::ShownBody;
-
-#[cfg(test)]
-mod tests;

@@ -43,8 +43,3 @@ pub use owners::owner;
 pub use partitions::partition;
 pub use routes::Routes;
 pub use served::served_map;
-
-#[cfg(test)]
-mod message_tests;
-#[cfg(test)]
-mod tests;

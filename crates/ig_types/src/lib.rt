@@ -24,8 +24,6 @@ mod merging;
 mod meta;
 mod order;
 mod registry;
-#[cfg(test)]
-mod tests;
 
 pub use clash::{Clash, JoinFault};
 pub use joining::{join, join_associates, join_commutes};

@@ -28,6 +28,3 @@ pub use flags::kept_flags;
 pub use laws::{bounded_trees, one_form, one_reader, one_reading};
 pub use object::{Record, Shape};
 pub use value::{DEEPEST, Dec, Object, Stamp, Value};
-
-#[cfg(test)]
-mod tests;

@@ -47,6 +47,3 @@ pub use reason::Reason;
 pub use stop::Stop;
 pub use unread::{ReadFault, Unread};
 pub use version::Version;
-
-#[cfg(test)]
-mod tests;

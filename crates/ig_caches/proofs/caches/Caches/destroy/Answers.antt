@@ -11,15 +11,15 @@ use Rattle.ig_caches.specs.declared.answer.Why.TheVariants as why
 use Rattle.ig_caches.proofs.CacheLemmas.{kept_at, not_kept, is_kept, cache_removed, runs, destroy_none, destroy_found, change_refused, change_done}
 use Rattle.ig_caches.proofs.caches.Caches.destroy.Goals as goal
 
-pub returns-then-not-contains_key : goal.returns-then-not-contains_key
-returns-then-not-contains_key c =
+pub returns-then-not-contains_key-clause-runs : goal.returns-then-not-contains_key-clause-runs
+returns-then-not-contains_key-clause-runs c =
     let old : PlainCaches = plain_caches c.args.self.now in
     let id : to_z w32 (of_z w32 c.args.cache) ≡ c.args.cache = to_z-of_z w32 c.args.cache c.ranges.cache in
     let none : false ≡ is_some (kept_at c.args.cache c.args.self.now.caches.entries) = c.if-not-contains_key.ensures ∙ ap (λ i. is_some (kept_at i c.args.self.now.caches.entries)) id in
     runs (Destroy c.args.cache) old old c.answer.result (Refused why.NoCache) (destroy_none old c.args.cache (not_kept c.args.self.now.caches.entries c.args.cache none)) c.answer.ensures.minor c.answer.ensures.outcome
 
-pub returns-in_default : goal.returns-in_default
-returns-in_default c =
+pub returns-in_default-clause-runs : goal.returns-in_default-clause-runs
+returns-in_default-clause-runs c =
     let old : PlainCaches = plain_caches c.args.self.now in
     let id : to_z w32 (of_z w32 c.args.cache) ≡ c.args.cache = to_z-of_z w32 c.args.cache c.ranges.cache in
     let minor : to_z w32 (of_z w32 c.args.self.now.minor) ≡ c.args.self.now.minor = search rules in
@@ -29,8 +29,8 @@ returns-in_default c =
     runs (Destroy c.args.cache) old old c.answer-in_default.result (Refused why.TooManyChanges)
     (destroy_found old c.args.cache found.0 found.1 ∙ change_refused old (caches_without old.caches c.args.cache) spent) c.answer-in_default.ensures.minor c.answer-in_default.ensures.outcome
 
-pub returns : goal.returns
-returns c =
+pub returns-clause-runs : goal.returns-clause-runs
+returns-clause-runs c =
     let old : PlainCaches = plain_caches c.args.self.now in
     let id : to_z w32 (of_z w32 c.args.cache) ≡ c.args.cache = to_z-of_z w32 c.args.cache c.ranges.cache in
     let minor : to_z w32 (of_z w32 c.args.self.now.minor) ≡ c.args.self.now.minor = search rules in

@@ -1,0 +1,10 @@
+pub mod HeadProps
+pub mod Contents
+pub mod Results
+pub mod RowMarks
+pub mod FrameParts
+pub mod Showing
+pub mod Queues
+pub mod Laws
+pub mod RunTerms
+pub mod Turned
