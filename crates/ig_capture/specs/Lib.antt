@@ -1,3 +1,12 @@
+pub mod Said
 pub mod Records
+pub mod Requests
 pub mod Talks
+pub mod Answers
+pub mod Sessions
+pub mod EndText
+pub mod Reading
 pub mod CaptureText
+pub mod CaptureLaws
+pub mod Feeds
+pub mod Coded

@@ -3,6 +3,7 @@
 use Rattle.std.specs.Prelude.{ℕ, zero, suc, ◌+◌, ◌-◌, ℤ, pos, negsuc, Bool, true, false, List, [], ◌∷◌, length, take, drop, Option, Some, None, nat_lt, nat_le, ◌&&◌, ◌==◌, if◌then◌else◌}
 use Rattle.std.specs.Int.{w32}
 use Rattle.ig_base.specs.Numbers.{number_at}
+use Rattle.ig_frame.specs.Streams.{place_of}
 use Rattle.ig_text.specs.ReadText.{begins_with}
 
 -- the four bytes that a capture begins with
@@ -24,7 +25,7 @@ pub record Piece : Type 0 where
   pub bytes : List ℕ
 
 -- the pieces of a capture in order, and the place of its first wrong part where one follows them: the first
--- byte of a field that is out of range or isn't whole, or of bytes that aren't whole
+-- byte of a field that is out of range or isn't whole, or of bytes that aren't whole; a place saturates
 pub record Records : Type 0 where
   pub pieces : List Piece
   pub wrong : Option ℕ
@@ -33,7 +34,7 @@ abbrev pub nothing_more : Records
 nothing_more = record { pieces = []; wrong = None }
 
 abbrev pub wrong_at : ℕ → Records
-wrong_at place = record { pieces = []; wrong = Some place }
+wrong_at place = record { pieces = []; wrong = Some (place_of place) }
 
 abbrev pub after_piece : Piece → Records → Records
 after_piece piece later = record { pieces = piece ∷ later.pieces; wrong = later.wrong }
@@ -45,9 +46,10 @@ within least most _ = None
 
 -- the bytes of a record, at a place, and what follows them
 abbrev pub bytes_from : (ℕ → List ℕ → Records) → ℕ → Bool → ℕ → ℕ → List ℕ → Records
-bytes_from later place server session n s =
-    let piece : Piece = record { server = server; session = session; bytes = take n s } in
-    after_piece piece (if nat_lt (length s) n then wrong_at place else later (place + n) (drop n s))
+bytes_from later place server session n [] = wrong_at place
+bytes_from later place server session n (byte ∷ s) =
+    after_piece (record { server = server; session = session; bytes = take n (byte ∷ s) })
+    (if nat_lt (suc (length s)) n then wrong_at place else later (place + n) (drop n (byte ∷ s)))
 
 abbrev pub count_from : (ℕ → List ℕ → Records) → ℕ → Bool → ℕ → Option ℕ → List ℕ → Records
 count_from later place server session None s = wrong_at place

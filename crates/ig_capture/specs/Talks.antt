@@ -1,11 +1,12 @@
--- What a session says, byte by byte: where each of its streams stands, which requests are unanswered, and
--- the text of each message when its last byte comes.
-use Rattle.std.specs.Prelude.{ℕ, ◌+◌, ◌-◌, ℤ, pos, Bool, true, false, not, ◌&&◌, List, [], ◌∷◌, ◌++◌, length, drop, slice_index, codes, Option, Some, None, Result, Ok, Err, nat_lt, ◌==◌, if◌then◌else◌, option_map}
+-- What the two sides of a session say to each other, message by message: how far they have come, which
+-- requests have no reply yet, and the text of each message.
+use Rattle.std.specs.Prelude.{ℕ, ◌+◌, ℤ, Bool, true, false, not, ◌&&◌, List, [], ◌∷◌, ◌++◌, length, slice_index, codes, Option, Some, None, Result, Ok, Err, nat_lt, ◌==◌, if◌then◌else◌, option_map}
 use Rattle.std.specs.Fmt.{decimal}
 use Rattle.std.specs.Option.{option_or}
-use Rattle.std.specs.Ordering.{int_eq}
-use Rattle.ig_base.specs.Frames.{Side, client, server, max_body, Front, Body, Bad, Incomplete, front}
+use Rattle.std.specs.FinMap as map
+use Rattle.ig_base.specs.Frames.{client, server}
 use Rattle.ig_base.specs.declared.Topology.{Topology}
+use Rattle.ig_frame.specs.Streams.{place_of}
 use Rattle.ig_value.specs.Part.{i16, i32, i64}
 use Rattle.ig_wire.specs.declared.version.Version.{Version}
 use Rattle.ig_wire.specs.declared.hello_reply.HelloReply.{HelloReply}
@@ -37,46 +38,27 @@ use Rattle.ig_lines.specs.declared.line.LineAsk.TheVariants as asks
 use Rattle.ig_lines.specs.Arguments.{space}
 use Rattle.ig_lines.specs.LineText.{AskText}
 use Rattle.ig_lines.specs.ShownText.{full_stop, ShownText, FaultText, MapText}
+use Rattle.ig_capture.specs.Requests.{Unanswered, with_request, taken}
+use Rattle.ig_capture.specs.declared.phase.Phase.{Phase}
+use Rattle.ig_capture.specs.declared.phase.Phase.TheVariants.{Fresh, Asked, Talking, Closed}
 
 -- ---- what is known of a session
 
--- a request that has no reply yet, and its operation; none where it was refused
-pub record Unanswered : Type 0 where
-  pub id : ℤ
-  pub operation : Option Operation
-
--- how far a session has come
-pub data Phase : Type 0 where
-  Fresh : Phase
-  Asked : Version → Phase
-  Talking : Version → Phase
-  Closed : Phase
-
--- the bytes of a stream that aren't a whole frame yet, and the place in the stream where they begin
-pub record Stream : Type 0 where
-  pub bytes : List ℕ
-  pub place : ℕ
-
--- a session; the requests stand in the order in which they came
+-- how far a session has come, and its requests without a reply
 pub record Talk : Type 0 where
-  pub from_client : Stream
-  pub from_server : Stream
   pub phase : Phase
-  pub unanswered : List Unanswered
-
-abbrev pub empty_stream : Stream
-empty_stream = record { bytes = []; place = 0 }
+  pub unanswered : Unanswered
 
 abbrev pub fresh_talk : Talk
-fresh_talk = record { from_client = empty_stream; from_server = empty_stream; phase = Fresh; unanswered = [] }
+fresh_talk = record { phase = Fresh; unanswered = map.empty }
 
--- the session after a byte, and the text of the message that it ended, if it ended one; or the place in the
--- stream of what is malformed
+-- the talk after a message, and the message's text; or the place in the stream of what is malformed
 abbrev pub Step : Type 0
-Step = Result (Talk × Option (List ℕ)) ℕ
+Step = Result (Talk × List ℕ) ℕ
 
-abbrev pub said : Talk → List ℕ → Step
-said talk text = Ok (talk, Some text)
+-- a place in the stream, counted from the first length byte of a frame at this place
+abbrev pub later_place : ℕ → ℕ → ℕ
+later_place place further = place_of (place + further)
 
 -- ---- the client's messages
 
@@ -92,7 +74,7 @@ hello_text body = codes "hello " ++ (version_text (version_at body 1) ++ (if nat
 
 abbrev pub hello_step : Talk → ℕ → List ℕ → Step
 hello_step talk place body =
-    if is_hello body then said (record talk { phase = Asked (version_at body 1) }) (hello_text body) else Err place
+    if is_hello body then Ok (record talk { phase = Asked (version_at body 1) }, hello_text body) else Err place
 
 -- a request for the pairs of caches is the word `parts`
 abbrev pub line_ask : Request → LineAsk
@@ -110,9 +92,8 @@ asked_operation code (Err fault) = None
 
 abbrev pub request_step : Talk → Version → List ℕ → Step
 request_step talk v body =
-    let request = request_in v body in
-    let asked : Unanswered = record { id = id_in body; operation = asked_operation (operation_in body) request } in
-    said (record talk { unanswered = talk.unanswered ++ asked ∷ [] }) (scalar_text i64 (id_in body) ++ space ∷ asked_text request)
+    Ok (record talk { unanswered = with_request (id_in body) (asked_operation (operation_in body) (request_in v body)) talk.unanswered },
+        scalar_text i64 (id_in body) ++ space ∷ asked_text (request_in v body))
 
 abbrev pub client_message : Talk → Phase → ℕ → List ℕ → Step
 client_message talk Fresh place body = hello_step talk place body
@@ -131,18 +112,13 @@ phase_after v (Accepted node) = Talking v
 phase_after v (Refused highest text n) = Closed
 
 abbrev pub greeted : Talk → Version → ℕ → List ℕ → Result HelloReply ℕ → Step
-greeted talk v place body (Ok reply) = said (record talk { phase = phase_after v reply }) (accepted_text reply)
-greeted talk v place body (Err left) = Err (place + frame_place body left)
+greeted talk v place body (Ok reply) = Ok (record talk { phase = phase_after v reply }, accepted_text reply)
+greeted talk v place body (Err left) = Err (later_place place (frame_place body left))
 
 -- an acceptance of a version that isn't spoken is malformed at its frame
 abbrev pub greeting_step : Talk → Version → ℕ → List ℕ → Step
 greeting_step talk v place body =
     if (slice_index body 0 == 1) && not (is_spoken v) then Err place else greeted talk v place body (hello_reply_of v body)
-
--- the first unanswered request with this identifier, and the others in order
-abbrev pub taken : ℤ → List Unanswered → Option (Unanswered × List Unanswered)
-taken id [] = None
-taken id (u ∷ us) = if int_eq u.id id then Some (u, us) else option_map (λ t. (t.0, u ∷ t.1)) (taken id us)
 
 abbrev pub told_text : Option Topology → List ℕ
 told_text None = []
@@ -180,57 +156,34 @@ content_text (Some fault) operation [] = Ok (FaultText fault)
 content_text (Some fault) operation s = Err (length s)
 
 abbrev pub replied : Talk → ℕ → List ℕ → ReplyHead → Result (List ℕ) ℕ → Step
-replied talk place body head (Ok text) = said talk (scalar_text i64 head.id ++ space ∷ (told_text head.told ++ text))
-replied talk place body head (Err left) = Err (place + frame_place body left)
+replied talk place body head (Ok text) = Ok (talk, scalar_text i64 head.id ++ space ∷ (told_text head.told ++ text))
+replied talk place body head (Err left) = Err (later_place place (frame_place body left))
 
 -- a reply without its request is malformed at its frame
-abbrev pub reply_for : Talk → ℕ → List ℕ → ReplyHead → List ℕ → Option (Unanswered × List Unanswered) → Step
+abbrev pub reply_for : Talk → ℕ → List ℕ → ReplyHead → List ℕ → Option (Option Operation × Unanswered) → Step
 reply_for talk place body head s None = Err place
-reply_for talk place body head s (Some t) = replied (record talk { unanswered = t.1 }) place body head (content_text head.fault t.0.operation s)
+reply_for talk place body head s (Some t) = replied (record talk { unanswered = t.1 }) place body head (content_text head.fault t.0 s)
 
 abbrev pub reply_after : Talk → ℕ → List ℕ → Result (ReplyHead × List ℕ) ℕ → Step
 reply_after talk place body (Ok h) = reply_for talk place body h.0 h.1 (taken h.0.id talk.unanswered)
-reply_after talk place body (Err left) = Err (place + frame_place body left)
+reply_after talk place body (Err left) = Err (later_place place (frame_place body left))
 
 abbrev pub server_message : Talk → Phase → ℕ → List ℕ → Step
 server_message talk (Asked v) place body = greeting_step talk v place body
 server_message talk (Talking v) place body = reply_after talk place body (head_of v body)
 server_message talk _ place body = Err place
 
--- ---- bytes
+-- ---- both
 
--- the least length of the next body: the first of a side, or a later one
-abbrev pub least_from_client : Phase → ℕ
-least_from_client Fresh = client.first
-least_from_client _ = client.later
+-- the next message of a side, whose frame begins at this place of its stream
+abbrev pub message : Talk → Bool → ℕ → List ℕ → Step
+message talk false place body = client_message talk talk.phase place body
+message talk true place body = server_message talk talk.phase place body
 
-abbrev pub least_from_server : Phase → ℕ
-least_from_server (Talking v) = (server_side v).later
-least_from_server Closed = server.later
-least_from_server _ = server.first
-
--- the stream when its bytes were a whole frame
-abbrev pub past : Stream → Stream
-past stream = record { bytes = []; place = stream.place + length stream.bytes }
-
-abbrev pub client_front : Talk → Front → Step
-client_front talk (Body body rest) = client_message (record talk { from_client = past talk.from_client }) talk.phase talk.from_client.place body
-client_front talk (Bad n) = Err talk.from_client.place
-client_front talk (Incomplete n) = Ok (talk, None)
-
-abbrev pub server_front : Talk → Front → Step
-server_front talk (Body body rest) = server_message (record talk { from_server = past talk.from_server }) talk.phase talk.from_server.place body
-server_front talk (Bad n) = Err talk.from_server.place
-server_front talk (Incomplete n) = Ok (talk, None)
-
-abbrev pub with_byte : Stream → ℕ → Stream
-with_byte stream byte = record stream { bytes = stream.bytes ++ byte ∷ [] }
-
--- the session after one byte of a side
-abbrev pub byte_step : Talk → Bool → ℕ → Step
-byte_step talk false byte =
-    let next : Talk = record talk { from_client = with_byte talk.from_client byte } in
-    client_front next (front (least_from_client talk.phase) max_body next.from_client.bytes)
-byte_step talk true byte =
-    let next : Talk = record talk { from_server = with_byte talk.from_server byte } in
-    server_front next (front (least_from_server talk.phase) max_body next.from_server.bytes)
+-- the least length of the body of that message: the first of a side, or a later one
+abbrev pub least : Bool → Phase → ℕ
+least false Fresh = client.first
+least false _ = client.later
+least true (Talking v) = (server_side v).later
+least true Closed = server.later
+least true _ = server.first

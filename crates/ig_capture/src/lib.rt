@@ -10,10 +10,34 @@
 //! 0 < 1 done
 //! ```
 //!
+//! A [`Capture`] is fed a capture in pieces of any length and appends these lines. It keeps what stands
+//! unfinished: of each session the frames that aren't whole, and the identifiers and operations of the
+//! requests without a reply.
+//!
 //! `CaptureText` in `specs/CaptureText.antt` is the text of a capture, `specs/Talks.antt` what a session
-//! says, byte by byte, and `specs/Records.antt` the records.
+//! says, message by message, and `specs/Records.antt` the records. That the pieces give this text is the
+//! contract of [`captures_are_shown`].
 #![tactic(auto)]
 
+mod capture;
+mod client;
+mod cuts;
 mod fault;
+mod field;
+mod laws;
+mod phase;
+mod reading;
+mod requests;
+mod results;
+mod server;
+mod session;
+mod sides;
+mod stop;
+mod talk;
+mod texts;
+mod unanswered;
+mod waiting;
 
+pub use capture::Capture;
 pub use fault::{CaptureBad, CaptureFault};
+pub use laws::captures_are_shown;

@@ -1,0 +1,30 @@
+-- What the calls of a capture do.
+use Rattle.std.specs.Prelude.{◌≡◌, ℕ, ◌++◌, List, Option, Some, None, Result, Ok, Err}
+use Rattle.ig_capture.specs.declared.fault.CaptureFault.{CaptureFault}
+use Rattle.ig_capture.specs.declared.fault.CaptureFault.TheVariants as fault
+use Rattle.ig_capture.specs.Reading.{Reading, State, Going, Stopped, fed, finished, answer_of}
+
+abbrev pub state_of : Reading → Option CaptureFault → State
+state_of r None = Going r
+state_of r (Some why) = Stopped why
+
+-- the piece was fed, and its text appended
+pub record FeedsPiece (old new : State) (out out' piece : List ℕ) : Type 0 where
+  pub state : new ≡ (fed old piece).0
+  pub text : out' ≡ out ++ (fed old piece).1
+
+-- memory ran out: nothing was appended
+pub record IsSpent (new : State) (out out' : List ℕ) : Type 0 where
+  pub state : new ≡ Stopped fault.NoMemory
+  pub text : out' ≡ out
+
+-- A piece was fed, and its text appended, unless memory runs out: then nothing is appended. The answer is the
+-- fault that stopped it, now or before.
+abbrev pub Feeds : State → State → List ℕ → List ℕ → List ℕ → Result (Unit {0}) CaptureFault → Type 0
+Feeds old new out out' piece (Err fault.NoMemory) = IsSpent new out out'
+Feeds old new out out' piece answer = FeedsPiece old new out out' piece × (answer ≡ answer_of new)
+
+-- what the end adds was appended, unless memory runs out: then nothing is
+abbrev pub Finishes : State → List ℕ → List ℕ → Result (Unit {0}) CaptureFault → Type 0
+Finishes s out out' (Err fault.NoMemory) = out' ≡ out
+Finishes s out out' answer = (answer ≡ (finished s).0) × (out' ≡ out ++ (finished s).1)

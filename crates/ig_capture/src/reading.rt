@@ -1,0 +1,183 @@
+//! Reading the records of a capture, in pieces of any length.
+
+ghost use Rattle.std.specs.Prelude.{◌≡◌};
+ghost use Rattle.ig_capture.specs.Answers.{ShowsLines};
+ghost use Rattle.ig_capture.specs.Reading as readings;
+ghost use Rattle.ig_capture.specs.Sessions as sessions;
+
+use crate::fault::{CaptureBad, CaptureFault};
+use crate::field::Field;
+use crate::session::Session;
+use ig_base::{NoMemory, Octets, get_i32};
+use std::alloc::Global;
+use std::marker::Model;
+
+/// The four bytes that a capture begins with.
+const MAGIC: &[u8] = b"IGC1";
+
+/// A session's number is below this.
+const SESSIONS: u32 = 1_024;
+
+/// The most bytes of a record.
+const MOST_BYTES: u32 = 65_536;
+
+/// The field that is being read, the offset in the capture where it begins, and those of its bytes that
+/// came; and the sessions so far, by number.
+#[derive(Drop)]
+pub(crate) struct Reading {
+    pub(crate) alloc: Global,
+    pub(crate) field: Field,
+    pub(crate) place: u64,
+    pub(crate) came: Octets,
+    pub(crate) sessions: Vec<Session>,
+}
+
+impl Model for Reading {
+    ghost use Rattle.ig_capture.specs.Reading as readings;
+    ghost use Rattle.ig_capture.specs.Coded.{coded_reading};
+
+    ghost Value = { readings.Reading };
+
+    ghost coded = { coded_reading };
+
+    ghost view = { λ r. record {
+      field = r.field;
+      place = r.place;
+      came = r.came;
+      sessions = r.sessions.items;
+    } };
+}
+
+impl Reading {
+    /// Nothing was read.
+    pub(crate) fn new(alloc: Global) -> Result<Reading, NoMemory> {
+        Ok(Reading {
+            alloc,
+            field: Field::Magic,
+            place: 0,
+            came: Octets::new(Vec::with_capacity(alloc, 4)?),
+            sessions: Vec::new(alloc),
+        })
+    }
+
+    /// Reads a piece, and appends the lines of the messages that end with its bytes.
+    pub(crate) fn read(&mut self, piece: &[u8], lines: &mut Octets) -> Result<(), CaptureFault>
+        ensures { ShowsLines (readings.read_bytes self.old piece.now) self.new lines.old lines.new result }
+    {
+        let mut rest = piece;
+        'bytes: while let Some((byte, later)) = rest.split_first() {
+            if let Field::Bytes {
+                server,
+                session,
+                count,
+                left,
+            } = self.field
+            {
+                let len = rest.len().min(left as usize);
+                let (bytes, later) = rest.split_at(len);
+                self.hear(session, server, bytes, lines)?;
+                self.fewer(server, session, count, left, len as u32);
+                rest = later;
+            } else {
+                self.head_byte(*byte)?;
+                rest = later;
+            }
+        }
+        Ok(())
+    }
+
+    /// Bytes of a side of a session.
+    fn hear(
+        &mut self,
+        session: u32,
+        server: bool,
+        bytes: &[u8],
+        lines: &mut Octets,
+    ) -> Result<(), CaptureFault> {
+        let number = session as usize;
+        while self.sessions.len() <= number {
+            self.sessions.push(Session::new(self.alloc))?;
+        }
+        self.sessions[number].hear(session, server, bytes, lines)
+    }
+
+    /// This many bytes of a record fewer are left.
+    fn fewer(&mut self, server: bool, session: u32, count: u32, left: u32, len: u32) {
+        if len < left {
+            self.field = Field::Bytes {
+                server,
+                session,
+                count,
+                left: left - len,
+            };
+        } else {
+            self.next_field(Field::Side, u64::from(count));
+        }
+    }
+
+    /// A byte of a field other than the bytes of a record.
+    fn head_byte(&mut self, byte: u8) -> Result<(), CaptureFault> {
+        if let Field::Side = self.field {
+            return self.side_byte(byte);
+        }
+        self.came.push(byte)?;
+        let Some(number) = get_i32(self.came.as_slice(), 0) else {
+            return Ok(());
+        };
+        match self.field {
+            Field::Magic => {
+                if self.came.as_slice() != MAGIC {
+                    return Err(self.malformed());
+                }
+                self.next_field(Field::Side, 4);
+            }
+            Field::Session { server } => match within(number, 0, SESSIONS - 1) {
+                Some(session) => self.next_field(Field::Count { server, session }, 4),
+                None => return Err(self.malformed()),
+            },
+            Field::Count { server, session } => match within(number, 1, MOST_BYTES) {
+                Some(count) => {
+                    let field = Field::Bytes {
+                        server,
+                        session,
+                        count,
+                        left: count,
+                    };
+                    self.next_field(field, 4);
+                }
+                None => return Err(self.malformed()),
+            },
+            Field::Side | Field::Bytes { .. } => {}
+        }
+        Ok(())
+    }
+
+    /// The side of a record.
+    fn side_byte(&mut self, byte: u8) -> Result<(), CaptureFault> {
+        if byte > 1 {
+            return Err(self.malformed());
+        }
+        self.next_field(Field::Session { server: byte == 1 }, 1);
+        Ok(())
+    }
+
+    /// The next field begins this many bytes further on.
+    fn next_field(&mut self, field: Field, further: u64) {
+        self.field = field;
+        self.place = self.place.saturating_add(further);
+        self.came.clear();
+    }
+
+    /// The field is malformed.
+    fn malformed(&self) -> CaptureFault {
+        CaptureFault::Bad(CaptureBad::Stream { place: self.place })
+    }
+}
+
+/// The number, if it is in this range.
+fn within(number: i32, least: u32, most: u32) -> Option<u32> {
+    match u32::try_from(number) {
+        Ok(n) if least <= n && n <= most => Some(n),
+        _ => None,
+    }
+}

@@ -1,0 +1,23 @@
+//! Why a message is not shown.
+
+ghost use Rattle.std.specs.Prelude.{◌≡◌};
+ghost use Rattle.ig_capture.specs.declared.stop.Stop.TheVariants as stops;
+
+use ig_base::NoMemory;
+
+/// Why a message is not shown.
+#[derive(Clone, Copy, Debug)]
+pub(crate) enum Stop {
+    /// There was no memory.
+    NoMemory,
+    /// It is malformed at this offset in the stream.
+    At { place: u64 },
+}
+
+impl From<NoMemory> for Stop {
+    ghost from_gives = { λ _ stop. stop ≡ stops.NoMemory };
+
+    fn from(_error: NoMemory) -> Stop {
+        Stop::NoMemory
+    }
+}
