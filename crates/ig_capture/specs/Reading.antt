@@ -60,7 +60,7 @@ count_whole server session r came = numbered r (λ n. Bytes server session n n) 
 -- one byte fewer of a record's bytes is left, and after the last one a record may begin
 abbrev pub one_fewer : Bool → ℕ → ℕ → ℕ → Reading → Reading
 one_fewer server session count left r =
-    if left == 1 then next_field r Side count else record r { field = Bytes server session count (left - 1) }
+    if nat_lt 1 left then record r { field = Bytes server session count (left - 1) } else next_field r Side count
 
 -- the reading after one more byte
 abbrev pub byte_in : Reading → Field → ℕ → Read

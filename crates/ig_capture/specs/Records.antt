@@ -4,7 +4,7 @@ use Rattle.std.specs.Prelude.{ℕ, zero, suc, ◌+◌, ◌-◌, ℤ, pos, negsuc
 use Rattle.std.specs.Int.{w32}
 use Rattle.ig_base.specs.Numbers.{number_at}
 use Rattle.ig_frame.specs.Streams.{place_of}
-use Rattle.ig_text.specs.ReadText.{begins_with}
+use Rattle.std.specs.Str.{bytes_eq}
 
 -- the four bytes that a capture begins with
 abbrev pub magic : List ℕ
@@ -51,19 +51,27 @@ bytes_from later place server session n (byte ∷ s) =
     after_piece (record { server = server; session = session; bytes = take n (byte ∷ s) })
     (if nat_lt (suc (length s)) n then wrong_at place else later (place + n) (drop n (byte ∷ s)))
 
+-- the number of the bytes, if it is there and in range, and what follows it
 abbrev pub count_from : (ℕ → List ℕ → Records) → ℕ → Bool → ℕ → Option ℕ → List ℕ → Records
 count_from later place server session None s = wrong_at place
 count_from later place server session (Some n) s = bytes_from later (place + 4) server session n (drop 4 s)
 
+abbrev pub count_at : (ℕ → List ℕ → Records) → ℕ → Bool → ℕ → List ℕ → Records
+count_at later place server session s = count_from later place server session (within 1 most_bytes (number_at w32 s 0)) s
+
+-- the session, and what follows it
 abbrev pub session_from : (ℕ → List ℕ → Records) → ℕ → Bool → Option ℕ → List ℕ → Records
 session_from later place server None s = wrong_at place
-session_from later place server (Some session) s = count_from later (place + 4) server session (within 1 most_bytes (number_at w32 s 4)) (drop 4 s)
+session_from later place server (Some session) s = count_at later (place + 4) server session (drop 4 s)
+
+abbrev pub session_at : (ℕ → List ℕ → Records) → ℕ → Bool → List ℕ → Records
+session_at later place server s = session_from later place server (within 0 (sessions - 1) (number_at w32 s 0)) s
 
 -- a record that begins at this place
 abbrev pub record_from : (ℕ → List ℕ → Records) → ℕ → List ℕ → Records
 record_from later place [] = nothing_more
 record_from later place (side ∷ s) =
-    if nat_lt side 2 then session_from later (place + 1) (side == 1) (within 0 (sessions - 1) (number_at w32 s 0)) s else wrong_at place
+    if nat_lt side 2 then session_at later (place + 1) (side == 1) s else wrong_at place
 
 -- records from a place on, at most as many as there are bytes
 abbrev pub records_from : ℕ → ℕ → List ℕ → Records
@@ -72,4 +80,4 @@ records_from (suc most) place s = record_from (records_from most) place s
 
 -- the records of a capture
 abbrev pub records_of : List ℕ → Records
-records_of s = if begins_with magic s then records_from (length s) 4 (drop 4 s) else wrong_at 0
+records_of s = if bytes_eq (take 4 s) magic then records_from (length s) 4 (drop 4 s) else wrong_at 0

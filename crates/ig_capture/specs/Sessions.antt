@@ -1,7 +1,6 @@
 -- Sessions: the streams of their two sides, cut into frames, and the lines of the messages in these.
-use Rattle.std.specs.Prelude.{ℕ, zero, suc, ◌+◌, ◌-◌, Bool, true, false, List, [], ◌∷◌, ◌++◌, length, take, drop, Result, Ok, Err}
+use Rattle.std.specs.Prelude.{ℕ, zero, suc, Bool, true, false, List, [], ◌∷◌, ◌++◌, length, Result, Ok, Err}
 use Rattle.std.specs.Fmt.{decimal}
-use Rattle.std.specs.List.{replicate}
 use Rattle.ig_base.specs.Frames.{max_body, Front, Body, Bad, Incomplete}
 use Rattle.ig_frame.specs.Streams.{Stream, new_stream, longer_stream, front_at, stream_after}
 use Rattle.ig_lines.specs.Arguments.{space}

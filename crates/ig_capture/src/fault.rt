@@ -1,5 +1,10 @@
 //! Why a capture could not be shown.
 
+ghost use Rattle.std.specs.Prelude.{◌≡◌};
+ghost use Rattle.ig_capture.specs.declared.fault.CaptureFault.TheVariants as faults;
+
+use ig_base::NoMemory;
+use std::alloc::AllocFailed;
 use std::fmt;
 
 /// What is malformed in a capture.
@@ -26,6 +31,22 @@ pub enum CaptureFault {
     Bad(CaptureBad),
     /// There was no memory.
     NoMemory,
+}
+
+impl From<NoMemory> for CaptureFault {
+    ghost from_gives = { λ _ fault. fault ≡ faults.NoMemory };
+
+    fn from(_error: NoMemory) -> CaptureFault {
+        CaptureFault::NoMemory
+    }
+}
+
+impl<T: Drop> From<AllocFailed<T>> for CaptureFault {
+    ghost from_gives = { λ _ fault. fault ≡ faults.NoMemory };
+
+    fn from(_error: AllocFailed<T>) -> CaptureFault {
+        CaptureFault::NoMemory
+    }
 }
 
 impl fmt::Display for CaptureBad {
