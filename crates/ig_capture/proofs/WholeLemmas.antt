@@ -78,7 +78,7 @@ within_least least most n (Some (pos k)) is = elim (cases_Bool (nat_le least k &
       let some = cond-true (nat_le least k && nat_le k most) (Some k) None fits in
       let same : Some k ≡ Some n = sym some ∙ is in
       let k_is : k ≡ n = cc in
-      omega (arith, k_is, leb-true _ _ (and_parts _ _ fits).0)
+      omega (arith, k_is, leb-true least k (and_parts (nat_le least k) (nat_le k most) fits).0)
   | inr out ↦ let none = cond-false (nat_le least k && nat_le k most) (Some k) None out in absurd (cc)
 ]
 
@@ -109,7 +109,7 @@ module _ (later : ℕ → List ℕ → Records) (fuel : ℕ)
   reads_bytes server session (suc k) place ss (b ∷ s) some low =
       elim (cases_lt (suc (length s)) (suc k)) [
         | inl short ↦
-            let all : take (suc k) (b ∷ s) ≡ b ∷ s = take_all (b ∷ s) (suc k) (omega (arith, short)) in
+            let all : take (suc k) (b ∷ s) ≡ b ∷ s = take_all (suc k) (b ∷ s) (omega (arith, short)) in
             let rest : bytes_from later place server session (suc k) (b ∷ s) ≡ after_piece (record { server = server; session = session; bytes = b ∷ s }) (wrong_at place) =
                 ap (λ (l : List ℕ). after_piece (record { server = server; session = session; bytes = l }) (if nat_lt (suc (length s)) (suc k) then wrong_at place else later (place + suc k) (drop (suc k) (b ∷ s)))) all
                 ∙ ap (λ (q : Records). after_piece (record { server = server; session = session; bytes = b ∷ s }) q)
@@ -212,13 +212,13 @@ reads_records (suc fuel) place ss (b ∷ s) low = reads_side (records_from fuel)
 -- ---- a capture
 
 no_magic : (s : List ℕ) → bytes_eq (take 4 s) magic ≡ false → records_of s ≡ wrong_at 0
-no_magic s no = cond-false (bytes_eq (take 4 s) magic) (records_from (length s) 4 (drop 4 s)) (wrong_at 0) no
+no_magic s other = cond-false (bytes_eq (take 4 s) magic) (records_from (length s) 4 (drop 4 s)) (wrong_at 0) other
 
 short_magic : (s : List ℕ) (r : Reading) → bytes_eq (take 4 s) magic ≡ false → read_bytes fresh_reading s ≡ silent r → wrong_end r r.field ≡ Some (bad.Stream 0) → r.sessions ≡ []
     → ReadsRecords (read_bytes fresh_reading s) [] (records_of s)
-short_magic s r no read ends none =
+short_magic s r other read ends none =
     subst (λ (x : Read). ReadsRecords x [] (records_of s)) (sym read)
-    (subst (λ (q : Records). ReadsRecords (silent r) [] q) (sym (no_magic s no)) (record { text = refl; agrees = ends }))
+    (subst (λ (q : Records). ReadsRecords (silent r) [] q) (sym (no_magic s other)) (record { text = refl; agrees = ends }))
 
 reads_capture : (s : List ℕ) → ReadsRecords (read_bytes fresh_reading s) [] (records_of s)
 reads_capture [] = short_magic [] fresh_reading refl refl refl refl

@@ -1,13 +1,14 @@
 -- What the calls of this crate answer, by what they are said to do.
-use Rattle.std.specs.Prelude.{◌≡◌, ℕ, ◌++◌, List, Option, Some, None, Result, Ok, Err}
+use Rattle.std.specs.Prelude.{◌≡◌, ℕ, ◌<◌, ◌++◌, Bool, true, false, List, length, Result, Ok, Err}
 use Rattle.ig_wire.specs.Fields.{frame_place}
 use Rattle.ig_capture.specs.declared.fault.CaptureBad.{CaptureBad}
 use Rattle.ig_capture.specs.declared.fault.CaptureFault.{CaptureFault}
 use Rattle.ig_capture.specs.declared.fault.CaptureFault.TheVariants as fault
 use Rattle.ig_capture.specs.declared.stop.Stop.{Stop}
 use Rattle.ig_capture.specs.declared.stop.Stop.TheVariants as stop
-use Rattle.ig_capture.specs.Said.{Said}
+use Rattle.ig_capture.specs.Said.{Said, silent, and_then}
 use Rattle.ig_capture.specs.Talks.{Talk, Step, later_place}
+use Rattle.ig_capture.specs.Sessions.{Side, hear}
 
 -- a message was shown, unless memory ran out
 abbrev pub ShowsStep : Step → Talk → List ℕ → Result (Unit {0}) Stop → Type 0
@@ -26,3 +27,14 @@ abbrev pub ShowsLines : {A : Type 0} → Said A CaptureBad → A → List ℕ �
 ShowsLines said after old new (Ok done) = (text : List ℕ) × (said ≡ (Ok after, text)) × (new ≡ old ++ text)
 ShowsLines said after old new (Err (fault.Bad why)) = (text : List ℕ) × (said ≡ (Err why, text)) × (new ≡ old ++ text)
 ShowsLines said after old new (Err fault.NoMemory) = Unit {0}
+
+-- A frame of a side was heard, and its line appended, or there is no whole one; unless memory ran out. Hearing
+-- the side is hearing this frame and then the rest.
+abbrev pub HearsFrame : ℕ → Bool → Side → Side → List ℕ → List ℕ → Result Bool CaptureFault → Type 0
+HearsFrame session server old new lines lines' (Ok true) =
+    (text : List ℕ) × (hear session server old ≡ and_then (Ok new, text) (hear session server)) × (lines' ≡ lines ++ text)
+    × (length new.stream.rest < length old.stream.rest)
+HearsFrame session server old new lines lines' (Ok false) = (hear session server old ≡ silent old) × (new ≡ old) × (lines' ≡ lines)
+HearsFrame session server old new lines lines' (Err (fault.Bad why)) =
+    (text : List ℕ) × (hear session server old ≡ (Err why, text)) × (lines' ≡ lines ++ text)
+HearsFrame session server old new lines lines' (Err fault.NoMemory) = Unit {0}

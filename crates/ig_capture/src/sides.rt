@@ -1,9 +1,12 @@
 //! One side of a session: its stream is cut into frames, and each whole one is shown.
 
-ghost use Rattle.std.specs.Prelude.{◌≡◌};
+ghost use Rattle.std.specs.Prelude.{◌≡◌, ◌≤◌, ◌<◌, ◌^◌, length};
 ghost use Rattle.ig_base.specs.Frames.{max_body};
-ghost use Rattle.ig_capture.specs.Answers.{ShowsLines};
+ghost use Rattle.ig_frame.specs.Streams.{Stream as a_stream};
+ghost use Rattle.ig_capture.specs.Answers.{ShowsLines, HearsFrame};
 ghost use Rattle.ig_capture.specs.Sessions as sessions;
+ghost use Rattle.ig_capture.specs.Sessions.{step_line};
+ghost use Rattle.ig_capture.specs.Talks.{message, least};
 
 use crate::fault::{CaptureBad, CaptureFault};
 use crate::stop::Stop;
@@ -27,8 +30,13 @@ pub(crate) fn hear(
         (record { stream = frames.new; talk = talk.new }) lines.old lines.new result }
     ensures limit { frames.new.limit ≡ max_body }
 {
-    'frames: while hear_frame(session, server, frames, talk, lines)? {}
-    Ok(())
+    'frames: loop {
+        match hear_frame(session, server, frames, talk, lines) {
+            Ok(true) => {}
+            Ok(false) => return Ok(()),
+            Err(fault) => return Err(fault),
+        }
+    }
 }
 
 /// The line of the frame that the stream begins with, and the stream after it. Answers whether a whole
@@ -41,6 +49,9 @@ fn hear_frame(
     lines: &mut Octets,
 ) -> Result<bool, CaptureFault>
     requires limit { frames.old.limit ≡ max_body }
+    ensures hears { HearsFrame session server (record { stream = frames.old; talk = talk.old })
+        (record { stream = frames.new; talk = talk.new }) lines.old lines.new result }
+    ensures limit { frames.new.limit ≡ max_body }
 {
     let least = talk.least(server);
     match frames.look(least) {
@@ -66,7 +77,13 @@ fn hear_message(
     body: &[u8],
     talk: &mut Talk,
     lines: &mut Octets,
-) -> Result<(), CaptureFault> {
+) -> Result<(), CaptureFault>
+    requires least { least server talk.old.phase ≤ length body.now }
+    requires short { length body.now < 2 ^ 31 }
+    ensures { (stream : a_stream) → ShowsLines
+        (step_line session server stream (message talk.old server place body.now))
+        (record { stream = stream; talk = talk.new }) lines.old lines.new result }
+{
     let mut text = Octets::empty(talk.alloc);
     match talk.hear(server, place, body, &mut text) {
         Ok(()) => Ok(put_line(session, server, text.as_slice(), lines)?),
