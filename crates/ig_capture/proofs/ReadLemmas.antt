@@ -9,7 +9,7 @@ use Rattle.ig_capture.specs.Said.{Said, silent, and_then}
 use Rattle.ig_capture.specs.Sessions as state
 use Rattle.ig_capture.specs.Sessions.{hear_at}
 use Rattle.ig_capture.specs.EndText.{wrong_line}
-use Rattle.ig_capture.specs.Reading.{Reading, Read, next_field, one_fewer, read_byte, read_bytes, State, Going, Stopped, settled, fed}
+use Rattle.ig_capture.specs.Reading.{Reading, Read, next_field, fewer_left, read_byte, read_bytes, State, Going, Stopped, settled, fed}
 use Rattle.ig_capture.specs.CaptureLaws.{FeedsCompose}
 use Rattle.ig_capture.proofs.SaidLemmas.{printed_first, assoc, same_next}
 use Rattle.ig_capture.proofs.HearLemmas.{at_pieces}
@@ -44,11 +44,6 @@ feeds_compose (Going r) first second =
 -- the reading of a record's bytes, of which some are left
 abbrev pub in_bytes : Bool → ℕ → ℕ → ℕ → Reading → Reading
 in_bytes server session count left r = record r { field = Bytes server session count left }
-
--- so many bytes fewer are left
-abbrev pub fewer_left : Bool → ℕ → ℕ → ℕ → ℕ → Reading → Reading
-fewer_left server session count left n r =
-    if nat_lt n left then in_bytes server session count (left - n) r else next_field r Side count
 
 module _ (server : Bool) (session count : ℕ) where
   -- one byte, and then others

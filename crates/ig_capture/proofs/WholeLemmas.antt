@@ -24,7 +24,7 @@ use Rattle.ig_capture.specs.Reading.{Reading, fresh_reading, Read, next_field, m
 use Rattle.ig_capture.specs.CaptureText.{hear_pieces, heard, first_wrong, end_text, WrongIn, CaptureLines, CaptureText}
 use Rattle.ig_capture.specs.CaptureLaws.{GivesText, GivesLines, answer_for}
 use Rattle.ig_capture.proofs.SaidLemmas.{assoc, same_next}
-use Rattle.ig_capture.proofs.ReadLemmas.{read_pieces, read_run, left_after, fewer_left, in_bytes}
+use Rattle.ig_capture.proofs.ReadLemmas.{read_pieces, read_run, left_after, in_bytes}
 
 -- ---- what agrees
 

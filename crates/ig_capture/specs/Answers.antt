@@ -1,6 +1,8 @@
 -- What the calls of this crate answer, by what they are said to do.
-use Rattle.std.specs.Prelude.{◌≡◌, ℕ, ◌<◌, ◌++◌, Bool, true, false, List, length, Result, Ok, Err}
+use Rattle.std.specs.Prelude.{◌≡◌, ℕ, ◌<◌, ◌++◌, Bool, true, false, List, [], length, Result, Ok, Err}
 use Rattle.ig_wire.specs.Fields.{frame_place}
+use Rattle.ig_wire.specs.declared.unread.ReadFault.{ReadFault}
+use Rattle.ig_wire.specs.declared.unread.ReadFault.TheVariants as reads
 use Rattle.ig_capture.specs.declared.fault.CaptureBad.{CaptureBad}
 use Rattle.ig_capture.specs.declared.fault.CaptureFault.{CaptureFault}
 use Rattle.ig_capture.specs.declared.fault.CaptureFault.TheVariants as fault
@@ -9,6 +11,7 @@ use Rattle.ig_capture.specs.declared.stop.Stop.TheVariants as stop
 use Rattle.ig_capture.specs.Said.{Said, silent, and_then}
 use Rattle.ig_capture.specs.Talks.{Talk, Step, later_place}
 use Rattle.ig_capture.specs.Sessions.{Side, hear}
+use Rattle.ig_capture.specs.Reading.{Reading, Read}
 
 -- a message was shown, unless memory ran out
 abbrev pub ShowsStep : Step → Talk → List ℕ → Result (Unit {0}) Stop → Type 0
@@ -38,3 +41,14 @@ HearsFrame session server old new lines lines' (Ok false) = (hear session server
 HearsFrame session server old new lines lines' (Err (fault.Bad why)) =
     (text : List ℕ) × (hear session server old ≡ (Err why, text)) × (lines' ≡ lines ++ text)
 HearsFrame session server old new lines lines' (Err fault.NoMemory) = Unit {0}
+
+-- the message is malformed where reading it says
+abbrev pub StopsAt : ℕ → ReadFault → Stop → Type 0
+StopsAt place reads.NoMemory result = result ≡ stop.NoMemory
+StopsAt place (reads.Unread unread) result = result ≡ stop.At (later_place place unread.place)
+
+-- a byte of a capture was read that ends no message
+abbrev pub ReadsByte : Read → Reading → Result (Unit {0}) CaptureFault → Type 0
+ReadsByte read new (Ok done) = read ≡ silent new
+ReadsByte read new (Err (fault.Bad why)) = read ≡ (Err why, [])
+ReadsByte read new (Err fault.NoMemory) = Unit {0}

@@ -1,5 +1,5 @@
 -- What the end of a capture adds to its lines.
-use Rattle.std.specs.Prelude.{ℕ, zero, suc, ◌+◌, Bool, true, false, List, [], ◌∷◌, ◌++◌, length, codes}
+use Rattle.std.specs.Prelude.{ℕ, ◌+◌, Bool, true, false, List, [], ◌∷◌, ◌++◌, length, codes, ◌==◌, if◌then◌else◌}
 use Rattle.std.specs.Fmt.{decimal}
 use Rattle.ig_capture.specs.declared.fault.CaptureBad.{CaptureBad}
 use Rattle.ig_capture.specs.declared.fault.CaptureBad.TheVariants as bad
@@ -18,15 +18,14 @@ wrong_text (bad.Message session server place) =
 abbrev pub wrong_line : CaptureBad → List ℕ
 wrong_line why = wrong_text why ++ line_end ∷ []
 
--- the bytes of a frame that isn't whole, by their number
-abbrev pub cut_line : ℕ → Bool → List ℕ → List ℕ
-cut_line session server [] = []
-cut_line session server (byte ∷ bytes) = message_line session server (codes "cut " ++ decimal (suc (length bytes)))
+-- the bytes of a frame that isn't whole, by their number, if there are any
+abbrev pub cut_line : ℕ → Bool → ℕ → List ℕ
+cut_line session server held = if held == 0 then [] else message_line session server (codes "cut " ++ decimal held)
 
 abbrev pub cuts_from : ℕ → List Session → List ℕ
 cuts_from number [] = []
 cuts_from number (s ∷ sessions) =
-    cut_line number false s.from_client.rest ++ (cut_line number true s.from_server.rest ++ cuts_from (number + 1) sessions)
+    cut_line number false (length s.from_client.rest) ++ (cut_line number true (length s.from_server.rest) ++ cuts_from (number + 1) sessions)
 
 -- a line for each frame that isn't whole, by session and first that of the client
 abbrev pub cuts_of : List Session → List ℕ

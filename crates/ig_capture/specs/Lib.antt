@@ -10,3 +10,4 @@ pub mod CaptureText
 pub mod CaptureLaws
 pub mod Feeds
 pub mod Coded
+pub mod Heads

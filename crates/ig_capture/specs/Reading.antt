@@ -57,10 +57,10 @@ session_whole server r came = numbered r (λ n. Count server n) (within 0 (sessi
 abbrev pub count_whole : Bool → ℕ → Reading → List ℕ → Read
 count_whole server session r came = numbered r (λ n. Bytes server session n n) (within 1 most_bytes (number_at w32 came 0))
 
--- one byte fewer of a record's bytes is left, and after the last one a record may begin
-abbrev pub one_fewer : Bool → ℕ → ℕ → ℕ → Reading → Reading
-one_fewer server session count left r =
-    if nat_lt 1 left then record r { field = Bytes server session count (left - 1) } else next_field r Side count
+-- this many bytes of a record fewer are left, and after the last one a record may begin
+abbrev pub fewer_left : Bool → ℕ → ℕ → ℕ → ℕ → Reading → Reading
+fewer_left server session count left n r =
+    if nat_lt n left then record r { field = Bytes server session count (left - n) } else next_field r Side count
 
 -- the reading after one more byte
 abbrev pub byte_in : Reading → Field → ℕ → Read
@@ -69,7 +69,7 @@ byte_in r Side byte = if nat_lt byte 2 then silent (next_field r (Session (byte 
 byte_in r (Session server) byte = four_bytes r (session_whole server) (r.came ++ byte ∷ [])
 byte_in r (Count server session) byte = four_bytes r (count_whole server session) (r.came ++ byte ∷ [])
 byte_in r (Bytes server session count left) byte =
-    and_then (hear_at r.sessions session server (byte ∷ [])) (λ heard. silent (one_fewer server session count left (record r { sessions = heard })))
+    and_then (hear_at r.sessions session server (byte ∷ [])) (λ heard. silent (fewer_left server session count left 1 (record r { sessions = heard })))
 
 abbrev pub read_byte : Reading → ℕ → Read
 read_byte r byte = byte_in r r.field byte

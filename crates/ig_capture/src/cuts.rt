@@ -40,11 +40,9 @@ pub(crate) fn put_cuts(
 ) -> Result<(), NoMemory>
     ensures { OnOk result (out.new ≡ out.old ++ ends.cuts_of sessions.now) }
 {
-    let mut number = 0;
-    for session in sessions {
-        put_cut(alloc, number, false, session.held(false), out)?;
-        put_cut(alloc, number, true, session.held(true), out)?;
-        number = number.saturating_add(1);
+    for (number, session) in sessions.iter().enumerate() {
+        put_cut(alloc, number as u64, false, session.held(false), out)?;
+        put_cut(alloc, number as u64, true, session.held(true), out)?;
     }
     Ok(())
 }
@@ -52,11 +50,13 @@ pub(crate) fn put_cuts(
 /// Appends the line of a frame that isn't whole, of which this many bytes are there, if any are.
 fn put_cut(
     alloc: Global,
-    number: u32,
+    number: u64,
     server: bool,
     held: u64,
     out: &mut Octets,
-) -> Result<(), NoMemory> {
+) -> Result<(), NoMemory>
+    ensures { OnOk result (out.new ≡ out.old ++ ends.cut_line number server held) }
+{
     if held == 0 {
         return Ok(());
     }

@@ -1,9 +1,14 @@
 //! Reading the records of a capture, in pieces of any length.
 
-ghost use Rattle.std.specs.Prelude.{◌≡◌};
-ghost use Rattle.ig_capture.specs.Answers.{ShowsLines};
+ghost use Rattle.std.specs.Prelude.{◌≡◌, Some, IfOk};
+ghost use Rattle.ig_capture.specs.Answers.{ShowsLines, ReadsByte};
 ghost use Rattle.ig_capture.specs.Reading as readings;
+ghost use Rattle.ig_capture.specs.Records as records;
 ghost use Rattle.ig_capture.specs.Sessions as sessions;
+ghost use Rattle.ig_capture.specs.Heads.{IsInHead, HearsBytes, HasRoom};
+ghost use Rattle.ig_capture.specs.declared.fault.CaptureBad.TheVariants as bad;
+ghost use Rattle.ig_capture.specs.declared.fault.CaptureFault.TheVariants as faults;
+ghost use Rattle.ig_capture.specs.declared.field.Field.TheVariants.{Side};
 
 use crate::fault::{CaptureBad, CaptureFault};
 use crate::field::Field;
@@ -50,7 +55,9 @@ impl Model for Reading {
 
 impl Reading {
     /// Nothing was read.
-    pub(crate) fn new(alloc: Global) -> Result<Reading, NoMemory> {
+    pub(crate) fn new(alloc: Global) -> Result<Reading, NoMemory>
+        ensures { IfOk result (λ reading. reading ≡ readings.fresh_reading) }
+    {
         Ok(Reading {
             alloc,
             field: Field::Magic,
@@ -86,23 +93,35 @@ impl Reading {
         Ok(())
     }
 
-    /// Bytes of a side of a session.
+    /// Appends the lines of the messages that end with these bytes of a side of a session.
     fn hear(
         &mut self,
         session: u32,
         server: bool,
         bytes: &[u8],
         lines: &mut Octets,
-    ) -> Result<(), CaptureFault> {
+    ) -> Result<(), CaptureFault>
+        ensures { HearsBytes session server bytes.now self.old self.new lines.old lines.new result }
+    {
         let number = session as usize;
-        while self.sessions.len() <= number {
-            self.sessions.push(Session::new(self.alloc))?;
-        }
+        self.make_room(number)?;
         self.sessions[number].hear(session, server, bytes, lines)
     }
 
+    /// Makes room for the session of this number: the sessions up to it that said nothing yet.
+    fn make_room(&mut self, number: usize) -> Result<(), NoMemory>
+        ensures { IfOk result (λ done. HasRoom number self.old self.new) }
+    {
+        while self.sessions.len() <= number {
+            self.sessions.push(Session::new(self.alloc))?;
+        }
+        Ok(())
+    }
+
     /// This many bytes of a record fewer are left.
-    fn fewer(&mut self, server: bool, session: u32, count: u32, left: u32, len: u32) {
+    fn fewer(&mut self, server: bool, session: u32, count: u32, left: u32, len: u32)
+        ensures { self.new ≡ readings.fewer_left server session count left len self.old }
+    {
         if len < left {
             self.field = Field::Bytes {
                 server,
@@ -116,7 +135,10 @@ impl Reading {
     }
 
     /// A byte of a field other than the bytes of a record.
-    fn head_byte(&mut self, byte: u8) -> Result<(), CaptureFault> {
+    fn head_byte(&mut self, byte: u8) -> Result<(), CaptureFault>
+        requires { IsInHead self.old.field }
+        ensures { ReadsByte (readings.read_byte self.old byte) self.new result }
+    {
         if let Field::Side = self.field {
             return self.side_byte(byte);
         }
@@ -153,7 +175,9 @@ impl Reading {
     }
 
     /// The side of a record.
-    fn side_byte(&mut self, byte: u8) -> Result<(), CaptureFault> {
+    fn side_byte(&mut self, byte: u8) -> Result<(), CaptureFault>
+        ensures { ReadsByte (readings.byte_in self.old Side byte) self.new result }
+    {
         if byte > 1 {
             return Err(self.malformed());
         }
@@ -162,20 +186,26 @@ impl Reading {
     }
 
     /// The next field begins this many bytes further on.
-    fn next_field(&mut self, field: Field, further: u64) {
+    fn next_field(&mut self, field: Field, further: u64)
+        ensures { self.new ≡ readings.next_field self.old field further }
+    {
         self.field = field;
         self.place = self.place.saturating_add(further);
         self.came.clear();
     }
 
     /// The field is malformed.
-    fn malformed(&self) -> CaptureFault {
+    fn malformed(&self) -> CaptureFault
+        ensures { result ≡ faults.Bad (bad.Stream self.now.place) }
+    {
         CaptureFault::Bad(CaptureBad::Stream { place: self.place })
     }
 }
 
 /// The number, if it is in this range.
-fn within(number: i32, least: u32, most: u32) -> Option<u32> {
+fn within(number: i32, least: u32, most: u32) -> Option<u32>
+    ensures { result ≡ records.within least most (Some number) }
+{
     match u32::try_from(number) {
         Ok(n) if least <= n && n <= most => Some(n),
         _ => None,

@@ -1,12 +1,12 @@
 //! The texts of results.
 
-ghost use Rattle.std.specs.Prelude.{◌≡◌, ◌≤◌, drop, length, OnOk, ◌++◌};
+ghost use Rattle.std.specs.Prelude.{◌≡◌, ◌≤◌, ◌++◌, drop, length, codes, IsSome, OnOk};
+ghost use Rattle.std.specs.Fmt.{decimal};
 ghost use Rattle.ig_capture.specs.Answers.{ShowsContent};
-ghost use Rattle.ig_capture.specs.Talks.{text_by, form_for, text_form, unread_text, later_place};
+ghost use Rattle.ig_capture.specs.Talks.{text_by, form_for, text_form};
 ghost use Rattle.ig_wire.specs.declared.operation.Operation.TheVariants.{PartitionMaps};
 ghost use Rattle.ig_meta.specs.Results.{result_of as types_result};
 ghost use Rattle.ig_ops.specs.Results.{result_of as rows_result};
-ghost use Rattle.std.specs.Prelude.{IsSome, Some};
 
 use crate::requests::is_of_types;
 use crate::stop::Stop;
@@ -14,7 +14,7 @@ use crate::texts::put_number;
 use ig_base::{NoMemory, Octets};
 use ig_lines::{write_map, write_shown};
 use ig_parts::read_parts;
-use ig_wire::{Operation, ReadFault};
+use ig_wire::Operation;
 use std::alloc::Global;
 
 /// Appends the text of the result that stands in the body from this offset on. `operation` is that of
@@ -42,19 +42,11 @@ pub(crate) fn put_result(
 }
 
 /// Appends the number of bytes of a result that isn't read.
-fn put_unread(len: usize, text: &mut Octets) -> Result<(), NoMemory> {
+fn put_unread(len: usize, text: &mut Octets) -> Result<(), NoMemory>
+    ensures { OnOk result (text.new ≡ text.old ++ (codes "unread " ++ decimal len)) }
+{
     text.append(b"unread ")?;
     put_number(len as u64, text)
-}
-
-/// Why a result isn't shown.
-fn stop_of(place: u64, fault: ReadFault) -> Stop {
-    match fault {
-        ReadFault::NoMemory => Stop::NoMemory,
-        ReadFault::Unread(unread) => Stop::At {
-            place: place.saturating_add(unread.place as u64),
-        },
-    }
 }
 
 /// Appends the text of a partition map.
@@ -71,7 +63,7 @@ fn put_map_result(
 {
     match read_parts(alloc, body, at) {
         Ok(map) => Ok(write_map(alloc, &map, text)?),
-        Err(fault) => Err(stop_of(place, fault)),
+        Err(fault) => Err(Stop::of(place, fault)),
     }
 }
 
@@ -91,7 +83,7 @@ fn put_types_result(
 {
     match ig_meta::read_result(alloc, operation.code(), body, at) {
         Ok(shown) => Ok(write_shown(alloc, &shown, text)?),
-        Err(fault) => Err(stop_of(place, fault)),
+        Err(fault) => Err(Stop::of(place, fault)),
     }
 }
 
@@ -111,6 +103,6 @@ fn put_rows_result(
 {
     match ig_ops::read_result(alloc, operation.code(), body, at) {
         Ok(shown) => Ok(write_shown(alloc, &shown, text)?),
-        Err(fault) => Err(stop_of(place, fault)),
+        Err(fault) => Err(Stop::of(place, fault)),
     }
 }

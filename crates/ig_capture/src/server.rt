@@ -13,9 +13,7 @@ use crate::texts::{put_id, put_version};
 use ig_base::{NoMemory, Octets, Topology};
 use ig_lines::write_fault;
 use ig_text::PutText;
-use ig_wire::{
-    Fault, HelloReply, Operation, ReadFault, Version, read_head, read_hello_reply,
-};
+use ig_wire::{Fault, HelloReply, Operation, Version, read_head, read_hello_reply};
 use std::alloc::Global;
 
 /// The first byte of a reply that accepts the hello.
@@ -56,16 +54,6 @@ fn put_told(told: Option<Topology>, text: &mut Octets) -> Result<(), NoMemory>
     text.push(b'.')?;
     topology.minor.put(text)?;
     text.push(b' ')
-}
-
-/// Why what a server sent isn't shown.
-fn stop_of(place: u64, fault: ReadFault) -> Stop {
-    match fault {
-        ReadFault::NoMemory => Stop::NoMemory,
-        ReadFault::Unread(unread) => Stop::At {
-            place: place.saturating_add(unread.place as u64),
-        },
-    }
 }
 
 /// Appends what follows the head of a reply: the text of the fault, or of the result. Nothing may follow
@@ -132,7 +120,7 @@ impl Talk {
         }
         let reply = match read_hello_reply(self.alloc, version, body) {
             Ok(reply) => reply,
-            Err(fault) => return Err(stop_of(place, fault)),
+            Err(fault) => return Err(Stop::of(place, fault)),
         };
         put_greeting(&reply, text)?;
         self.phase = match reply {
@@ -156,7 +144,7 @@ impl Talk {
     {
         let (head, at) = match read_head(self.alloc, version, body) {
             Ok(found) => found,
-            Err(fault) => return Err(stop_of(place, fault)),
+            Err(fault) => return Err(Stop::of(place, fault)),
         };
         let Some(operation) = self.unanswered.take(head.id) else {
             return Err(Stop::At { place });

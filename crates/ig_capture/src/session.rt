@@ -72,7 +72,9 @@ impl Session {
     }
 
     /// How many bytes of a side are there of a frame that isn't whole.
-    pub(crate) fn held(&self, server: bool) -> u64 {
+    pub(crate) fn held(&self, server: bool) -> u64
+        ensures { result ≡ length (sessions.side_of self.now server).stream.rest }
+    {
         if server {
             self.from_server.held()
         } else {

@@ -86,7 +86,7 @@ fn hear_message(
 {
     let mut text = Octets::empty(talk.alloc);
     match talk.hear(server, place, body, &mut text) {
-        Ok(()) => Ok(put_line(session, server, text.as_slice(), lines)?),
+        Ok(()) => Ok(put_line(u64::from(session), server, text.as_slice(), lines)?),
         Err(Stop::NoMemory) => Err(CaptureFault::NoMemory),
         Err(Stop::At { place }) => Err(CaptureFault::Bad(CaptureBad::Message {
             session,

@@ -41,14 +41,14 @@ pub(crate) fn put_id(id: i64, out: &mut Octets) -> Result<(), NoMemory>
 
 /// Appends the line of a message.
 pub(crate) fn put_line(
-    session: u32,
+    session: u64,
     server: bool,
     text: &[u8],
     out: &mut Octets,
 ) -> Result<(), NoMemory>
     ensures { OnOk result (out.new ≡ out.old ++ message_line session server text.now) }
 {
-    put_number(u64::from(session), out)?;
+    put_number(session, out)?;
     out.append(if server { b" < " } else { b" > " })?;
     out.append(text)?;
     out.push(b'\n')

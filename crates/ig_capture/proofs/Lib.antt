@@ -1,0 +1,5 @@
+mod FrontLemmas
+mod HearLemmas
+mod ReadLemmas
+mod SaidLemmas
+mod WholeLemmas
