@@ -1,5 +1,6 @@
 mod FrontLemmas
 mod HearLemmas
+mod LoopLemmas
 mod ReadLemmas
 mod SaidLemmas
 mod WholeLemmas

@@ -7,7 +7,7 @@ ghost use Rattle.ig_capture.specs.Feeds.{Feeds, Finishes};
 use crate::cuts::{put_cuts, put_wrong};
 use crate::fault::{CaptureBad, CaptureFault};
 use crate::field::Field;
-use crate::reading::Reading;
+use crate::reading::{Reading, read};
 use ig_base::{NoMemory, Octets};
 use std::alloc::Global;
 use std::marker::Model;
@@ -57,7 +57,7 @@ impl Capture {
             return Err(fault);
         }
         let mut lines = Octets::empty(self.reading.alloc);
-        let shown = match self.reading.read(piece, &mut lines) {
+        let shown = match read(&mut self.reading, piece, &mut lines) {
             Err(CaptureFault::Bad(bad)) => {
                 self.stopped = Some(CaptureFault::Bad(bad));
                 put_wrong(bad, &mut lines)

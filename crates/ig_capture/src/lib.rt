@@ -31,6 +31,7 @@ mod requests;
 mod results;
 mod server;
 mod session;
+mod sessions;
 mod sides;
 mod stop;
 mod talk;

@@ -1,11 +1,10 @@
 //! Reading the records of a capture, in pieces of any length.
 
-ghost use Rattle.std.specs.Prelude.{◌≡◌, Some, IfOk};
+ghost use Rattle.std.specs.Prelude.{◌≡◌, ◌<◌, length, Some, IfOk};
 ghost use Rattle.ig_capture.specs.Answers.{ShowsLines, ReadsByte};
 ghost use Rattle.ig_capture.specs.Reading as readings;
 ghost use Rattle.ig_capture.specs.Records as records;
-ghost use Rattle.ig_capture.specs.Sessions as sessions;
-ghost use Rattle.ig_capture.specs.Heads.{IsInHead, HearsBytes, HasRoom};
+ghost use Rattle.ig_capture.specs.Heads.{IsInHead, ReadsSome};
 ghost use Rattle.ig_capture.specs.declared.fault.CaptureBad.TheVariants as bad;
 ghost use Rattle.ig_capture.specs.declared.fault.CaptureFault.TheVariants as faults;
 ghost use Rattle.ig_capture.specs.declared.field.Field.TheVariants.{Side};
@@ -13,6 +12,7 @@ ghost use Rattle.ig_capture.specs.declared.field.Field.TheVariants.{Side};
 use crate::fault::{CaptureBad, CaptureFault};
 use crate::field::Field;
 use crate::session::Session;
+use crate::sessions::hear_at;
 use ig_base::{NoMemory, Octets, get_i32};
 use std::alloc::Global;
 use std::marker::Model;
@@ -67,55 +67,26 @@ impl Reading {
         })
     }
 
-    /// Reads a piece, and appends the lines of the messages that end with its bytes.
-    pub(crate) fn read(&mut self, piece: &[u8], lines: &mut Octets) -> Result<(), CaptureFault>
-        ensures { ShowsLines (readings.read_bytes self.old piece.now) self.new lines.old lines.new result }
+    /// Reads the first bytes of a piece, at least one, and appends the lines of the messages that end with
+    /// them. Answers how many it read.
+    fn read_some(&mut self, piece: &[u8], lines: &mut Octets) -> Result<usize, CaptureFault>
+        requires { 0 < length piece.now }
+        ensures { ReadsSome piece.now self.old self.new lines.old lines.new result }
     {
-        let mut rest = piece;
-        'bytes: while let Some((byte, later)) = rest.split_first() {
-            if let Field::Bytes {
-                server,
-                session,
-                count,
-                left,
-            } = self.field
-            {
-                let len = rest.len().min(left as usize);
-                let (bytes, later) = rest.split_at(len);
-                self.hear(session, server, bytes, lines)?;
-                self.fewer(server, session, count, left, len as u32);
-                rest = later;
-            } else {
-                self.head_byte(*byte)?;
-                rest = later;
-            }
-        }
-        Ok(())
-    }
-
-    /// Appends the lines of the messages that end with these bytes of a side of a session.
-    fn hear(
-        &mut self,
-        session: u32,
-        server: bool,
-        bytes: &[u8],
-        lines: &mut Octets,
-    ) -> Result<(), CaptureFault>
-        ensures { HearsBytes session server bytes.now self.old self.new lines.old lines.new result }
-    {
-        let number = session as usize;
-        self.make_room(number)?;
-        self.sessions[number].hear(session, server, bytes, lines)
-    }
-
-    /// Makes room for the session of this number: the sessions up to it that said nothing yet.
-    fn make_room(&mut self, number: usize) -> Result<(), NoMemory>
-        ensures { IfOk result (λ done. HasRoom number self.old self.new) }
-    {
-        while self.sessions.len() <= number {
-            self.sessions.push(Session::new(self.alloc))?;
-        }
-        Ok(())
+        let Field::Bytes {
+            server,
+            session,
+            count,
+            left,
+        } = self.field
+        else {
+            self.head_byte(piece[0])?;
+            return Ok(1);
+        };
+        let len = piece.len().min(left as usize);
+        hear_at(self.alloc, session, server, &piece[..len], &mut self.sessions, lines)?;
+        self.fewer(server, session, count, left, len as u32);
+        Ok(len)
     }
 
     /// This many bytes of a record fewer are left.
@@ -200,6 +171,24 @@ impl Reading {
     {
         CaptureFault::Bad(CaptureBad::Stream { place: self.place })
     }
+}
+
+/// Reads a piece, and appends the lines of the messages that end with its bytes.
+pub(crate) fn read(
+    reading: &mut Reading,
+    piece: &[u8],
+    lines: &mut Octets,
+) -> Result<(), CaptureFault>
+    ensures { ShowsLines (readings.read_bytes reading.old piece.now) reading.new lines.old lines.new result }
+{
+    let mut at = 0;
+    'bytes: while at < piece.len() {
+        match reading.read_some(&piece[at..], lines) {
+            Ok(len) => at += len,
+            Err(fault) => return Err(fault),
+        }
+    }
+    Ok(())
 }
 
 /// The number, if it is in this range.
