@@ -1,6 +1,6 @@
 -- What bytes begin with, when more bytes follow them.
-use Rattle.std.proofs.Common.{◌≡◌, ℕ, ◌+◌, ◌-◌, ◌≤◌, ◌<◌, ℤ, pos, negsuc, ◌&&◌, List, ◌++◌, length, take, drop, Option, None, Some, refl, sym, ap, ◌∙◌, arith, inl, inr}
-use Rattle.std.proofs.lemmas.Bool.{le-ltb, lt-ltb, cond-true, cond-false, cases_Bool, cases_lt}
+use Rattle.std.proofs.Common.{◌≡◌, ℕ, ◌+◌, ◌-◌, ◌≤◌, ◌<◌, ℤ, pos, negsuc, ◌&&◌, List, ◌++◌, length, length-take-le, take, drop, Option, None, Some, refl, sym, ap, ◌∙◌, arith, inl, inr}
+use Rattle.std.proofs.lemmas.Bool.{le-ltb, lt-ltb, leb-true, cond-true, cond-false, cases_Bool, cases_lt, and_parts}
 use Rattle.std.proofs.lemmas.List.{length-append, length-drop, take-append-le, drop-append-le}
 use Rattle.std.specs.Prelude.{nat_lt, nat_le}
 use Rattle.std.specs.Int.{w32, cast_signed, from_le_bytes}
@@ -73,6 +73,33 @@ front_longer_bad least limit s more k h = elim (cases_lt (length s) 4) [
   | inl short ↦ let none : front_from least limit s (number_at w32 s 0) ≡ Incomplete (4 - length s) = ap (front_from least limit s) (number_at-short s short) in cc
   | inr long ↦ ap (front_from least limit (s ++ more)) (number_longer s more long) ∙ from_longer_bad least limit s more k (number_at w32 s 0) h
 ]
+
+sized_length : (n : ℕ) (s body rest : List ℕ) → front_sized n s ≡ Body body rest → length body ≡ n
+sized_length n s body rest h = elim (cases_lt (length s) n) [
+  | inl short ↦ let part = cond-true (nat_lt (length s) n) (Incomplete (n - length s)) (Body (take n s) (drop n s)) (lt-ltb _ _ short) in cc
+  | inr long ↦
+      let whole = cond-false (nat_lt (length s) n) (Incomplete (n - length s)) (Body (take n s) (drop n s)) (le-ltb _ _ long) in
+      let same : body ≡ take n s = cc in
+      ap length same ∙ length-take-le n s long
+]
+
+from_range : (least limit : ℕ) (s body rest : List ℕ) (read : Option ℤ) → front_from least limit s read ≡ Body body rest → (least ≤ length body) × (length body ≤ limit)
+from_range least limit s body rest None h = cc
+from_range least limit s body rest (Some (negsuc n)) h = cc
+from_range least limit s body rest (Some (pos n)) h =
+    let inside = front_sized n (drop 4 s) in
+    elim (cases_Bool (nat_le least n && nat_le n limit)) [
+      | inl fits ↦
+          let both = and_parts (nat_le least n) (nat_le n limit) fits in
+          let len : length body ≡ n = sized_length n (drop 4 s) body rest (sym (cond-true (nat_le least n && nat_le n limit) inside (Bad (pos n)) fits) ∙ h) in
+          (omega (arith, len, leb-true least n both.0), omega (arith, len, leb-true n limit both.1))
+      | inr out ↦ let bad = cond-false (nat_le least n && nat_le n limit) inside (Bad (pos n)) out in cc
+    ]
+
+-- the length of a body is in range
+pub front_range : (least limit : ℕ) (s body rest : List ℕ) → front least limit s ≡ Body body rest → (least ≤ length body) × (length body ≤ limit)
+unfolding front
+front_range least limit s body rest h = from_range least limit s body rest (number_at w32 s 0) h
 
 -- fewer bytes are left after a frame
 pub front_shorter : (least limit : ℕ) (s body rest : List ℕ) → front least limit s ≡ Body body rest → length rest < length s

@@ -57,6 +57,21 @@ module _ (session : ℕ) (server : Bool) where
   enough (suc m) zero side low high = none_left (suc m) session server side (omega (arith, high))
   enough (suc m) (suc k) side low high = enough_front m k (enough m k) side (front_of server side) refl low high
 
+  -- what is heard of a side, by what its stream begins with
+  pub by_front : (side : Side) (f : Front) → front_of server side ≡ f → hear session server side ≡ hear_front (hear session server) session server side f
+  by_front side f is =
+      enough (length (bytes_of side)) (suc (length (bytes_of side))) side (omega arith) (omega arith)
+      ∙ ap (hear_front (hear_most (length (bytes_of side)) session server) session server side) is
+      ∙ whole f is
+      where
+        whole : (g : Front) → front_of server side ≡ g → hear_front (hear_most (length (bytes_of side)) session server) session server side g ≡ hear_front (hear session server) session server side g
+        whole (Body body rest) found =
+            let fewer : length rest < length (bytes_of side) = front_shorter (least server side.talk.phase) side.stream.limit (bytes_of side) body rest found in
+            same_after (hear_most (length (bytes_of side)) session server) (hear session server) side body rest (message side.talk server side.stream.place body)
+            (λ talk. enough (length (bytes_of side)) (length rest) (after_frame side body rest talk) (omega (arith, fewer)) (omega arith))
+        whole (Bad n) found = refl
+        whole (Incomplete n) found = refl
+
   -- ---- more bytes
 
   -- bytes are heard, and then more of them

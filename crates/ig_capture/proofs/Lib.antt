@@ -1,6 +1,9 @@
+mod FrameLemmas
 mod FrontLemmas
 mod HearLemmas
 mod LoopLemmas
 mod ReadLemmas
+mod RequestLemmas
 mod SaidLemmas
+mod SessionLemmas
 mod WholeLemmas

@@ -1,5 +1,6 @@
 pub mod Said
 pub mod Records
+pub mod Operations
 pub mod Requests
 pub mod Talks
 pub mod Answers

@@ -146,7 +146,7 @@ impl Talk {
             Ok(found) => found,
             Err(fault) => return Err(Stop::of(place, fault)),
         };
-        let Some(operation) = self.unanswered.take(head.id) else {
+        let Some(operation) = self.unanswered.take(head.id)? else {
             return Err(Stop::At { place });
         };
         put_id(head.id, text)?;

@@ -1,8 +1,8 @@
 //! The requests of a session that have no reply yet.
 
-ghost use Rattle.std.specs.Prelude.{◌≡◌, OnOk, OnErr, None, Some, IfSome, OnNone};
+ghost use Rattle.std.specs.Prelude.{◌≡◌, OnOk, IfOk};
 ghost use Rattle.std.specs.FinMap as map;
-ghost use Rattle.ig_capture.specs.Talks.{with_request, taken};
+ghost use Rattle.ig_capture.specs.Requests.{with_request, TakesFirst};
 
 use crate::waiting::Waiting;
 use ig_base::NoMemory;
@@ -41,28 +41,32 @@ impl Unanswered {
         }
     }
 
-    /// Adds a request after those with the same identifier. On an error all are as before.
+    /// Adds a request after those with the same identifier. Out of memory, those may be lost.
     pub(crate) fn add(&mut self, id: i64, operation: Option<Operation>) -> Result<(), NoMemory>
-        ensures ok { OnOk result (self.new ≡ with_request id operation self.old) }
-        ensures err { OnErr result (self.new ≡ self.old) }
+        ensures { OnOk result (self.new ≡ with_request id operation self.old) }
     {
-        if let Some(waiting) = self.requests.get_mut(&id) {
-            return waiting.add(operation);
-        }
-        let waiting = Waiting::new(self.alloc, operation);
+        let Some(mut waiting) = self.requests.remove(&id) else {
+            let waiting = Waiting::new(self.alloc, operation);
+            self.requests.insert(id, waiting)?;
+            return Ok(());
+        };
+        waiting.add(operation)?;
         self.requests.insert(id, waiting)?;
         Ok(())
     }
 
-    /// Takes the first request with the identifier away. Takes no memory.
-    pub(crate) fn take(&mut self, id: i64) -> Option<Option<Operation>>
-        ensures { TakesFirst id self.old self.new result }
+    /// Takes the first request with the identifier away, if there is one. Out of memory, the others with
+    /// this identifier may be lost.
+    pub(crate) fn take(&mut self, id: i64) -> Result<Option<Option<Operation>>, NoMemory>
+        ensures { IfOk result (TakesFirst id self.old self.new) }
     {
-        let waiting = self.requests.get_mut(&id)?;
-        let first = waiting.first();
-        if !waiting.pass() {
-            self.requests.remove(&id);
+        let Some(waiting) = self.requests.remove(&id) else {
+            return Ok(None);
+        };
+        let (first, later) = waiting.split();
+        if let Some(later) = later {
+            self.requests.insert(id, later)?;
         }
-        Some(first)
+        Ok(Some(first))
     }
 }

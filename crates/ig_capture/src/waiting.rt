@@ -1,7 +1,6 @@
 //! The requests of one identifier that have no reply yet.
 
-ghost use Rattle.std.specs.Prelude.{◌≡◌, ◌++◌, ◌∷◌, [], OnOk, OnErr};
-ghost use Rattle.ig_wire.specs.declared.operation.Operation.{Operation as an_operation};
+ghost use Rattle.std.specs.Prelude.{◌≡◌, ◌++◌, ◌∷◌, [], OnOk};
 
 use ig_base::NoMemory;
 use ig_wire::Operation;
@@ -18,15 +17,19 @@ pub(crate) struct Waiting {
 }
 
 impl Model for Waiting {
-    ghost use Rattle.std.specs.Prelude.{List, Option, ◌∷◌};
-    ghost use Rattle.ig_wire.specs.declared.operation.Operation.{Operation as an_operation};
+    ghost use Rattle.std.specs.Prelude.{◌∷◌};
+    ghost use Rattle.ig_capture.specs.Operations.{Operations, coded_operations};
 
-    ghost Value = { List (Option an_operation) };
+    ghost Value = { Operations };
+
+    ghost coded = { coded_operations };
 
     ghost view = { λ w. w.first ∷ w.later.items };
 }
 
 impl Waiting {
+    ghost use Rattle.ig_capture.specs.Operations.{SplitsFirst};
+
     /// One request. Takes no memory.
     pub(crate) fn new(alloc: Global, operation: Option<Operation>) -> Waiting
         ensures { result ≡ operation ∷ [] }
@@ -37,32 +40,22 @@ impl Waiting {
         }
     }
 
-    /// Adds a request after the others. On an error they are as before.
+    /// Adds a request after the others.
     pub(crate) fn add(&mut self, operation: Option<Operation>) -> Result<(), NoMemory>
-        ensures ok { OnOk result (self.new ≡ self.old ++ operation ∷ []) }
-        ensures err { OnErr result (self.new ≡ self.old) }
+        ensures { OnOk result (self.new ≡ self.old ++ operation ∷ []) }
     {
         self.later.push_back(operation)?;
         Ok(())
     }
 
-    /// The first request.
-    pub(crate) fn first(&self) -> Option<Operation>
-        ensures { (later : List (Option an_operation)) × (self.now ≡ result ∷ later) }
+    /// The first request, and the others if there are any.
+    pub(crate) fn split(self) -> (Option<Operation>, Option<Waiting>)
+        ensures { SplitsFirst self result.0 result.1 }
     {
-        self.first
-    }
-
-    /// Takes the first request away, unless it is the only one. Answers whether it did.
-    pub(crate) fn pass(&mut self) -> bool
-        ensures { Passes self.old self.new result }
-    {
-        match self.later.pop_front() {
-            Some(next) => {
-                self.first = next;
-                true
-            }
-            None => false,
+        let Waiting { first, mut later } = self;
+        match later.pop_front() {
+            Some(next) => (first, Some(Waiting { first: next, later })),
+            None => (first, None),
         }
     }
 }
