@@ -1,7 +1,9 @@
+mod ContentLemmas
 mod FrameLemmas
 mod FrontLemmas
 mod HearLemmas
 mod LoopLemmas
+mod OperationLemmas
 mod ReadLemmas
 mod RequestLemmas
 mod SaidLemmas
