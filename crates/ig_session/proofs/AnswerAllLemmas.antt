@@ -1,217 +1,133 @@
--- Answering all whole frames.
-use Rattle.std.proofs.Common.{◌≡◌, inl, inr, ℕ, ◌+◌, ◌-◌, ◌<◌, Bool, true, false, List, [], ◌++◌, ℤ, length, length-append, take, Result, Ok, Err, refl, sym, ap, ◌∙◌, subst, arith, append_assoc, append-nil}
-use Rattle.std.proofs.lemmas.Grind.{flat_map-append}
-use Rattle.std.proofs.lemmas.List.{length-drop}
-use Rattle.ig_base.proofs.FrameLemmas.{front-inside}
-use Rattle.std.specs.List.{flat_map}
-use Rattle.ig_base.specs.declared.memory.NoMemory.{NoMemory}
-use Rattle.ig_base.specs.Numbers.{AreBytes}
-use Rattle.ig_base.specs.Frames as frames
-use Rattle.ig_link.specs.States.{SinkState, SinkAdvances}
-use Rattle.ig_link.specs.WritesAs.{SentPart}
-use Rattle.ig_link.proofs.StateLemmas.{SinkAdvances-nothing, SinkAdvances-then, Rose-after}
-use Rattle.ig_session.specs.Caches.{Plain}
-use Rattle.ig_session.specs.Histories.{Entry, StandsOn}
-use Rattle.ig_session.specs.Deals.{Ran, entries_of, entry_of}
-use Rattle.ig_session.specs.Serves.{Runs}
-use Rattle.ig_session.specs.Bodies.{least_of, IsAt}
-use Rattle.ig_session.specs.Sessions.{Stands, ReadsBody, StepsTo, Steps}
-use Rattle.ig_session.specs.Serving.{AnswersAll}
-use Rattle.ig_session.specs.declared.wire.HelloFault.{HelloFault}
-use Rattle.ig_session.specs.declared.session.Session.{Session}
-use Rattle.ig_session.specs.declared.session.Step.{Step}
-use Rattle.ig_session.specs.declared.session.Step.TheVariants as steps
-use Rattle.ig_session.specs.declared.end.SessionEnd.{SessionEnd}
-use Rattle.ig_session.specs.declared.end.SessionEnd.TheVariants as ends
-use Rattle.ig_session.proofs.AnswerLemmas.{StandsOn-nothing}
-use Rattle.ig_session.proofs.ServeLemmas.{goes_on, cut_off, refuses, ends_whole, all_shown, goes, least_same}
+-- Each step of answering whole frames, since the first of them.
+use Rattle.std.proofs.Common.{◌≡◌, ℕ, ◌+◌, ◌<◌, ◌≤◌, List, [], ◌∷◌, ◌++◌, length, Option, None, Some, Result, Ok, Err, refl, sym, ap, ◌∙◌, subst, arith, inl, inr}
+use Rattle.ig_base.specs.declared.entry.Entry.{Entry}
+use Rattle.ig_base.specs.Frames.{client, Front, Body, Bad, Incomplete}
+use Rattle.ig_frame.specs.Streams.{front_at}
+use Rattle.ig_link.specs.States.{SinkState}
+use Rattle.ig_caches.specs.declared.call.Call.{Call}
+use Rattle.ig_caches.specs.declared.answer.Answer.{Answer}
+use Rattle.ig_caches.specs.PlainCaches.{PlainCaches}
+use Rattle.ig_deals.specs.declared.end.SessionEnd.{SessionEnd}
+use Rattle.ig_deals.specs.declared.end.SessionEnd.TheVariants as ends
+use Rattle.ig_deals.specs.Asks.{Asked, asked_in}
+use Rattle.ig_deals.specs.Deals.{Got, Ran, call_for, entry_of}
+use Rattle.ig_deals.specs.Hellos.{greeting_of}
+use Rattle.ig_replies.specs.Showing.{waiting_none}
+use Rattle.ig_session.specs.declared.phase.Phase.{Phase}
+use Rattle.ig_session.specs.declared.phase.Phase.TheVariants.{BeforeHello, Open, Refused, OutOfMemory}
+use Rattle.ig_session.specs.declared.step.Step.{Step}
+use Rattle.ig_session.specs.declared.step.Step.TheVariants as steps
+use Rattle.ig_session.specs.Histories.{StandsOn}
+use Rattle.ig_session.specs.States.{State}
+use Rattle.ig_session.specs.Comings.{Coming, Replies, Stops, Misses, Greets, Asks, found, coming_in, coming}
+use Rattle.ig_session.specs.Soundness.{IsSound}
+use Rattle.ig_session.specs.Steps.{asked_next, step_to, next_step, answered, IsSpent, Lacks}
+use Rattle.ig_session.specs.StandsFor.{Stands}
+use Rattle.ig_session.specs.Laws.{StandsAfter}
+use Rattle.ig_session.specs.Serving.{EndsAnswering, AnswersAll, SendsWaiting, GivesAnswer}
+use Rattle.ig_session.proofs.ComingLemmas.{comes_as}
+use Rattle.ig_session.proofs.StepLemmas.{step_stands, lack_stands}
+use Rattle.ig_session.proofs.AnswerLemmas.{answered_stands, lost_stands}
+use Rattle.ig_session.proofs.EndLemmas.{fault_is_end, stop_is_end}
+use Rattle.ig_session.proofs.ProgressLemmas.{Goes, HandsOut, Answers, out_step, run_step, more_step, answered_step}
+use Rattle.ig_session.proofs.SinceLemmas.{Since, since_step, since_sent, since_ran, since_paused, since_ended, since_fault}
 
-pub entries-append : (seat : ℕ) (xs ys : List Ran) → entries_of seat (xs ++ ys) ≡ entries_of seat xs ++ entries_of seat ys
-entries-append seat xs ys = flat_map-append (λ (r : Ran). entry_of seat r.call r.got) xs ys
+-- ---- stops
 
-pub StandsOn-then : {C : Type 0} (stands : C → Plain → List Entry → Type 0) (a b c : C) (xs ys : List Entry) → StandsOn stands a b xs → StandsOn stands b c ys → StandsOn stands a c (xs ++ ys)
-StandsOn-then stands a b c xs ys first second = record {
-  keeps = λ start own h. subst (stands c start) (append_assoc own xs ys) (second.keeps start (own ++ xs) (first.keeps start own h));
-}
+found_ends : (s : State) (reads : List ℕ → Coming) (f : Front) (end : SessionEnd) (s0 s1 : SinkState) → ((body : List ℕ) → reads body ≡ Stops end → ⊥) → found s reads f ≡ Stops end
+    → s1.faults ≡ s0.faults → EndsAnswering end s0 s1
+found_ends s reads (Body body rest) end s0 s1 never e counts = absurd (never body e)
+found_ends s reads (Bad n) end s0 s1 never e counts = let same : ends.BadFrame s.stream.place n ≡ end = cc in subst (λ (x : SessionEnd). EndsAnswering x s0 s1) same counts
+found_ends s reads (Incomplete missing) end s0 s1 never e counts = absurd cc
 
--- what a run of steps keeps: these calls were run and these bytes written since
-pub record Since {C : Type 0} (stands : C → Plain → List Entry → Type 0) (seat : ℕ) (caller caller' : C) (old new : Session) (sink sink' : SinkState) : Type 0 where
-  pub ran : List Ran
-  pub out : List ℕ
-  pub keeps : StandsOn stands caller caller' (entries_of seat ran)
-  pub gets : SinkAdvances sink sink' out
-  pub counts : sink'.faults ≡ sink.faults
-  pub continues : (input output : List ℕ) (results : List Ran) → Stands old input output results → Stands new input (output ++ out) (results ++ ran)
+ends_in : (s : State) (phase : Phase) (end : SessionEnd) (s0 s1 : SinkState) → coming_in s phase ≡ Stops end → s1.faults ≡ s0.faults → EndsAnswering end s0 s1
+ends_in s BeforeHello end s0 s1 e counts = found_ends s (λ hello. Greets (greeting_of hello)) (front_at client.first s.stream) end s0 s1 (λ body never. cc) e counts
+ends_in s (Open terms) end s0 s1 e counts = found_ends s (λ body. Asks terms (asked_in terms.version body)) (front_at client.later s.stream) end s0 s1 (λ body never. cc) e counts
+ends_in s (Refused fault) end s0 s1 e counts = let same : ends.HelloRefused fault ≡ end = cc in subst (λ (x : SessionEnd). EndsAnswering x s0 s1) same counts
+ends_in s OutOfMemory end s0 s1 e counts = let same : ends.NoMemory ≡ end = cc in subst (λ (x : SessionEnd). EndsAnswering x s0 s1) same counts
 
-repacked : (old new : Session) (input output : List ℕ) (results : List Ran) → old.frames ≡ new.frames → old.is_open ≡ new.is_open → Stands old input output results → Stands new input output results
-repacked old new input output results fs os s = record {
-  bodies = s.bodies;
-  within = s.within;
-  begins = subst (λ (l : List ℕ). frames.Begins frames.client input s.bodies l) fs s.begins;
-  stage = subst (λ (b : Bool). IsAt b s.bodies) os s.stage;
-  handed_out = s.handed_out;
-  shows = s.shows;
-  are_bytes = subst AreBytes fs s.are_bytes;
-}
+-- a stop leaves the session as it was
+stop_stays : (s new : State) (next : Coming) (end : SessionEnd) → (steps.Stop end, new) ≡ step_to s next → (next ≡ Stops end) × (new ≡ s)
+stop_stays s new Replies end e = let steps_are = ap (λ (p : Step × State). p.0) e in absurd cc
+stop_stays s new (Stops other) end e =
+    let steps_are = ap (λ (p : Step × State). p.0) e in
+    let same : end ≡ other = cc in (ap Stops (sym same), ap (λ (p : Step × State). p.1) e)
+stop_stays s new (Misses missing) end e = let steps_are = ap (λ (p : Step × State). p.0) e in absurd cc
+stop_stays s new (Greets (Ok hello)) end e = let steps_are = ap (λ (p : Step × State). p.0) e in absurd cc
+stop_stays s new (Greets (Err fault)) end e = let steps_are = ap (λ (p : Step × State). p.0) e in absurd cc
+stop_stays s new (Asks terms asked) end e = absurd (by (call_for asked.request) e) where
+  by : (o : Option Call) → (steps.Stop end, new) ≡ asked_next terms s asked o → ⊥
+  by None e = let steps_are = ap (λ (p : Step × State). p.0) e in cc
+  by (Some call) e = let steps_are = ap (λ (p : Step × State). p.0) e in cc
 
-regrouped : (input output more last : List ℕ) (results xs ys : List Ran) (end : SessionEnd) → Runs input (output ++ more ++ last) (results ++ xs ++ ys) end
-    → Runs input (output ++ (more ++ last)) (results ++ (xs ++ ys)) end
-regrouped input output more last results xs ys end runs =
-    subst (λ (l : List Ran). Runs input (output ++ (more ++ last)) l end) (append_assoc results xs ys)
-    (subst (λ (l : List ℕ). Runs input l (results ++ xs ++ ys) end) (append_assoc output more last) runs)
+stop_ends : (s : State) (end : SessionEnd) (s0 s1 : SinkState) → coming s ≡ Stops end → s1.faults ≡ s0.faults → EndsAnswering end s0 s1
+stop_ends s end s0 s1 comes counts = ends_in s s.phase end s0 s1 (comes_as s (Stops end) (λ never. cc) comes).by_phase counts
 
-pub held_not : (old new : Bool) → (old ≡ true → new ≡ true) → new ≡ false → old ≡ false
-held_not true new stays e = let held = stays refl in cc
-held_not false new stays e = refl
+-- what a state stands for after the step that was taken
+step_is : (s new : State) (step : Step) (input : List ℕ) (ran : List Ran) (output : List ℕ) → (step, new) ≡ next_step s → IsSound s → Stands s input ran [] output → StandsAfter step new input ran output
+step_is s new step input ran output e sound stood = subst (λ (p : Step × State). StandsAfter p.0 p.1 input ran output) (sym e) (step_stands s input ran output sound stood)
 
-module _ {C : Type 0} (stands : C → Plain → List Entry → Type 0) (seat : ℕ) where
-  pub since_start : (caller : C) (state : Session) (sink : SinkState) → Since stands seat caller caller state state sink sink
-  since_start caller state sink = record {
-    ran = [];
-    out = [];
-    keeps = StandsOn-nothing stands caller;
-    gets = SinkAdvances-nothing sink;
-    counts = refl;
-    continues = λ input output results s. subst (λ (l : List Ran). Stands state input (output ++ []) l) (sym (append-nil results))
-        (subst (λ (l : List ℕ). Stands state input l results) (sym (append-nil output)) s);
-  }
+lack_cfg : (s new : State) → Lacks s new → new.cfg ≡ s.cfg
+lack_cfg s new lacks = elim lacks.left [
+  | inl same ↦ ap (λ (t : State). t.cfg) same
+  | inr spent ↦ spent.cfg
+]
 
-  -- calls that were run, and bytes that were written, after those before
-  pub joins_keeps : (a b c : C) (xs ys : List Ran) → StandsOn stands a b (entries_of seat xs) → StandsOn stands b c (entries_of seat ys) → StandsOn stands a c (entries_of seat (xs ++ ys))
-  joins_keeps a b c xs ys first second = subst (StandsOn stands a c) (sym (entries-append seat xs ys)) (StandsOn-then stands a b c (entries_of seat xs) (entries_of seat ys) first second)
+-- ---- each step
 
-  -- all that was run
-  all_kept : (a b c : C) (first old new : Session) (s0 s1 : SinkState) (result : Result Step NoMemory) (since : Since stands seat a b first old s0 s1) (st : Steps stands seat b c old new result)
-      → StandsOn stands a c (entries_of seat (since.ran ++ st.ran))
-  all_kept a b c first old new s0 s1 result since st = joins_keeps a b c since.ran st.ran since.keeps st.keeps
+module _ {C : Type 0} (stands : C → PlainCaches → List (Entry Call Answer) → Type 0) (seat : ℕ) (a b : C) (first old : State) (s0 s1 : SinkState) (since : Since stands seat a b first old s0 s1) where
+  -- there was no memory to read a frame
+  pub since_lack : {A : Type 0} (new : State) → Lacks old new → AnswersAll {A = A} stands seat a b first new s0 s1 (Err ends.NoMemory)
+  since_lack {A} new lacks =
+      let now : Since stands seat a b first new s0 s1 = since_step stands seat a b first old new s0 s1 since (lack_cfg old new lacks)
+      (λ input ran output stood. lack_stands old new input ran output lacks stood) in
+      since_ended stands seat {A = A} a b first new s0 s1 ends.NoMemory now (λ counts. counts)
+      (λ input ran output within stood. (fault_is_end new input ran output within stood).1)
 
-  none_more : (a b c : C) (first old new : Session) (s0 s1 : SinkState) (result : Result Step NoMemory) (since : Since stands seat a b first old s0 s1) (st : Steps stands seat b c old new result)
-      → st.ran ≡ [] → StandsOn stands a c (entries_of seat since.ran)
-  none_more a b c first old new s0 s1 result since st none = subst (λ (l : List Ran). StandsOn stands a c (entries_of seat l))
-      (ap (λ l. since.ran ++ l) none ∙ append-nil since.ran) (all_kept a b c first old new s0 s1 result since st)
+  pub since_stop : {A : Type 0} (new : State) (end : SessionEnd) → IsSound old → (steps.Stop end, new) ≡ next_step old → AnswersAll {A = A} stands seat a b first new s0 s1 (Err end)
+  since_stop {A} new end sound e =
+      let stays : (coming old ≡ Stops end) × (new ≡ old) = stop_stays old new (coming old) end e in
+      subst (λ (t : State). AnswersAll {A = A} stands seat a b first t s0 s1 (Err end)) (sym stays.1)
+      (since_ended stands seat {A = A} a b first old s0 s1 end since (λ counts. stop_ends old end s0 s1 stays.0 counts)
+      (λ input ran output within stood. stop_is_end old input ran output sound within stood end (sym (ap (λ (p : Step × State). p.0) e))))
 
-  -- a reply was sent whole
-  pub since_out : (a b c : C) (first old new after : Session) (s0 s1 s2 : SinkState) → Since stands seat a b first old s0 s1 → Steps stands seat b c old new (Ok steps.Out)
-      → SinkAdvances s1 s2 new.reply → s2.faults ≡ s1.faults → after.frames ≡ new.frames → after.is_open ≡ new.is_open → Since stands seat a c first after s0 s2
-  since_out a b c first old new after s0 s1 s2 since st sent counts same_frames same_open = record {
-    ran = since.ran ++ st.ran;
-    out = since.out ++ new.reply;
-    keeps = all_kept a b c first old new s0 s1 (Ok steps.Out) since st;
-    gets = SinkAdvances-then since.gets sent;
-    counts = counts ∙ since.counts;
-    continues = λ input output results s.
-        let on = goes_on old new input (output ++ since.out) (results ++ since.ran) st.ran st.step.0 (since.continues input output results s) st.step.1 st.step.2 st.step.3 in
-        repacked new after input (output ++ (since.out ++ new.reply)) (results ++ (since.ran ++ st.ran)) (sym same_frames) (sym same_open)
-        (subst (λ (l : List Ran). Stands new input (output ++ (since.out ++ new.reply)) l) (append_assoc results since.ran st.ran)
-        (subst (λ (l : List ℕ). Stands new input l (results ++ since.ran ++ st.ran)) (append_assoc output since.out new.reply) on));
-  }
+  pub since_more : {D : Type 0} (done : D) (new : State) (missing : ℕ) → IsSound old → old.out ≡ [] → (steps.More missing, new) ≡ next_step old → AnswersAll stands seat a b first new s0 s1 (Ok done)
+  since_more done new missing sound none e =
+      let stays : (new ≡ old) × (coming old ≡ Misses missing) = more_step old new missing e in
+      subst (λ (t : State). AnswersAll stands seat a b first t s0 s1 (Ok done)) (sym stays.0)
+      (since_paused stands seat a b first old s0 s1 done since sound (missing, stays.1) none)
 
-  -- no whole frame is left
-  pub since_more : (a b c : C) (first old new : Session) (s0 s1 : SinkState) (taken missing : ℕ) → Since stands seat a b first old s0 s1 → Steps stands seat b c old new (Ok (steps.More missing))
-      → AnswersAll stands seat a c first new s0 s1 taken (Ok missing)
-  since_more a b c first old new s0 s1 taken missing since st = record {
-    ran = since.ran;
-    out = since.out;
-    keeps = none_more a b c first old new s0 s1 (Ok (steps.More missing)) since st st.step.0;
-    gets = since.gets;
-    cause = since.counts;
-    continues = λ input output results counts s.
-        let on = repacked old new input (output ++ since.out) (results ++ since.ran) (sym st.step.1) (sym st.step.2) (since.continues input output results s) in
-        record {
-          stands = on;
-          part = ap (λ b. frames.front (least_of b) frames.max_body new.frames) st.step.2 ∙ ap (frames.front (least_of old.is_open) frames.max_body) st.step.1 ∙ st.step.3;
-        };
-  }
+  since_out : (mid : State) → IsSound old → (steps.Out, mid) ≡ next_step old → Since stands seat a b first mid s0 s1
+  since_out mid sound e = since_step stands seat a b first old mid s0 s1 since (out_step old mid e).cfg
+      (λ input ran output stood. step_is old mid steps.Out input ran output e sound stood)
 
-  -- a length is out of range
-  pub since_bad : (a b c : C) (first old new : Session) (s0 s1 : SinkState) (taken place : ℕ) (len : ℤ) → Since stands seat a b first old s0 s1 → Steps stands seat b c old new (Ok (steps.Bad len))
-      → place ≡ taken - length new.frames → AnswersAll stands seat a c first new s0 s1 taken (Err (ends.BadFrame place len))
-  since_bad a b c first old new s0 s1 taken place len since st at = record {
-    ran = since.ran;
-    out = since.out;
-    keeps = none_more a b c first old new s0 s1 (Ok (steps.Bad len)) since st st.step.0;
-    gets = since.gets;
-    cause = since.counts;
-    continues = λ input output results counts s.
-        let on = repacked old new input (output ++ since.out) (results ++ since.ran) (sym st.step.1) (sym st.step.2) (since.continues input output results s) in
-        let whole = ap length on.begins.whole ∙ length-append (flat_map frames.Frame on.bodies) new.frames in
-        let found = ap (λ n. frames.front n frames.max_body new.frames) (least_same new.is_open on.bodies on.stage)
-        ∙ ap (λ b. frames.front (least_of b) frames.max_body new.frames) st.step.2 ∙ ap (frames.front (least_of old.is_open) frames.max_body) st.step.1 ∙ st.step.3 in
-        ends_whole new (ends.BadFrame place len) input (output ++ since.out) (results ++ since.ran) on
-        (goes new.is_open on.bodies on.stage, omega (arith, at, counts, whole), found) (λ fs o e. e);
-  }
+  pub since_written : {D : Type 0} (done : D) (mid new : State) (s2 : SinkState) → IsSound old → (steps.Out, mid) ≡ next_step old → SendsWaiting mid new s1 s2 (Ok done) → Since stands seat a b first new s0 s2
+  since_written done mid new s2 sound e sends = since_sent stands seat a b first mid new s0 s1 s2 (since_out mid sound e) sends.0 sends.1 sends.2
 
-  -- the reply to a hello that is refused was sent whole
-  pub since_refused : (a b c : C) (first old new after : Session) (s0 s1 s2 : SinkState) (taken : ℕ) (fault : HelloFault) → Since stands seat a b first old s0 s1
-      → Steps stands seat b c old new (Ok (steps.Refused fault)) → SinkAdvances s1 s2 new.reply → s2.faults ≡ s1.faults → AnswersAll stands seat a c first after s0 s2 taken (Err (ends.HelloRefused fault))
-  since_refused a b c first old new after s0 s1 s2 taken fault since st sent counts = record {
-    ran = since.ran ++ st.ran;
-    out = since.out ++ new.reply;
-    keeps = all_kept a b c first old new s0 s1 (Ok (steps.Refused fault)) since st;
-    gets = SinkAdvances-then since.gets sent;
-    cause = counts ∙ since.counts;
-    continues = λ input output results counts s.
-        regrouped input output since.out new.reply results since.ran st.ran (ends.HelloRefused fault)
-        (refuses old new input (output ++ since.out) (results ++ since.ran) st.ran st.step.0 fault (since.continues input output results s) st.step.1 st.step.2 st.step.3 st.step.4);
-  }
+  pub since_unwritten : {A : Type 0} (mid new : State) (s2 : SinkState) (end : SessionEnd) → IsSound old → (steps.Out, mid) ≡ next_step old → SendsWaiting {A = A} mid new s1 s2 (Err end)
+      → AnswersAll {A = A} stands seat a b first new s0 s2 (Err end)
+  since_unwritten {A} mid new s2 end sound e sends = subst (λ (x : SessionEnd). AnswersAll {A = A} stands seat a b first new s0 s2 (Err x)) (sym sends.0)
+      (since_fault stands seat {A = A} a b first mid new s0 s1 s2 (since_out mid sound e) sends.1 sends.2)
 
-  -- the sink failed within a reply
-  faulted : (a b c : C) (first old new after : Session) (s0 s1 s2 : SinkState) (taken sent : ℕ) (result : Result Step NoMemory) (body left frame : List ℕ) → (since : Since stands seat a b first old s0 s1)
-      → (st : Steps stands seat b c old new result) → ReadsBody old body left st.ran frame → SentPart sent s1 s2 frame → AnswersAll stands seat a c first after s0 s2 taken (Err ends.WriteFault)
-  faulted a b c first old new after s0 s1 s2 taken sent result body left frame since st read fault = record {
-    ran = since.ran ++ st.ran;
-    out = since.out ++ take sent frame;
-    keeps = all_kept a b c first old new s0 s1 result since st;
-    gets = SinkAdvances-then since.gets fault.advances;
-    cause = record {
-      rose = Rose-after s0.faults s1.faults s2.faults since.gets.faults fault.rose;
-      holds_not = held_not s0.holds s1.holds since.gets.holds fault.holds_not;
-    };
-    continues = λ input output results counts s.
-        regrouped input output since.out (take sent frame) results since.ran st.ran ends.WriteFault
-        (cut_off old ends.WriteFault input (output ++ since.out) (results ++ since.ran) st.ran body left frame sent (since.continues input output results s) read (λ fs o p. p) (λ i bs a. tt));
-  }
+  run_stands : (mid : State) (call : Call) → IsSound old → (steps.Run call, mid) ≡ next_step old
+      → (input : List ℕ) (ran : List Ran) (output : List ℕ) → Stands old input ran [] output → Stands mid input ran (call ∷ []) output
+  run_stands mid call sound e input ran output stood = step_is old mid (steps.Run call) input ran output e sound stood
 
-  pub since_fault : (a b c : C) (first old new after : Session) (s0 s1 s2 : SinkState) (taken sent : ℕ) → Since stands seat a b first old s0 s1 → Steps stands seat b c old new (Ok steps.Out)
-      → SentPart sent s1 s2 new.reply → AnswersAll stands seat a c first after s0 s2 taken (Err ends.WriteFault)
-  since_fault a b c first old new after s0 s1 s2 taken sent since st fault =
-      faulted a b c first old new after s0 s1 s2 taken sent (Ok steps.Out) st.step.0 new.frames new.reply since st st.step.1 fault
+  pub since_answered : (c : C) (mid new : State) (call : Call) (got : Got) → IsSound old → old.out ≡ [] → (steps.Run call, mid) ≡ next_step old → StandsOn stands b c (entry_of seat call got) → new ≡ answered mid got
+      → Since stands seat a c first new s0 s1
+  since_answered c mid new call got sound none e keeps is =
+      let hands : HandsOut old mid = run_step old mid call e in
+      let answers : Answers mid (answered mid got) = answered_step mid got (omega (arith, hands.out, ap length none)) in
+      since_ran stands seat a b c first old new s0 s1 call got since (ap (λ (t : State). t.cfg) is ∙ answers.cfg ∙ hands.cfg) keeps
+      (λ input ran output stood. subst (λ (t : State). Stands t input (ran ++ record { call = call; got = got } ∷ []) [] output) (sym is)
+      (answered_stands mid input ran call got output (run_stands mid call sound e input ran output stood)))
 
-  pub since_refused_fault : (a b c : C) (first old new after : Session) (s0 s1 s2 : SinkState) (taken sent : ℕ) (why : HelloFault) → Since stands seat a b first old s0 s1
-      → Steps stands seat b c old new (Ok (steps.Refused why)) → SentPart sent s1 s2 new.reply → AnswersAll stands seat a c first after s0 s2 taken (Err ends.WriteFault)
-  since_refused_fault a b c first old new after s0 s1 s2 taken sent why since st fault =
-      faulted a b c first old new after s0 s1 s2 taken sent (Ok (steps.Refused why)) st.step.0 new.frames new.reply since st st.step.1 fault
-
-  -- there was no memory for a request, or for a reply
-  none_told : (old new : Session) (e : NoMemory) (input output more : List ℕ) (results xs ys : List Ran) → Stands old input (output ++ more) (results ++ xs) → StepsTo (Err e) old new ys
-      → Runs input (output ++ more) (results ++ (xs ++ ys)) ends.NoMemory
-  none_told old new e input output more results xs ys s (inl unread) =
-      let same : results ++ xs ≡ results ++ (xs ++ ys) = ap (λ (l : List Ran). results ++ l) (sym (ap (λ l. xs ++ l) unread.none ∙ append-nil xs)) in
-      subst (λ (l : List Ran). Runs input (output ++ more) l ends.NoMemory) same (ends_whole old ends.NoMemory input (output ++ more) (results ++ xs) s tt all_shown)
-  none_told old new e input output more results xs ys s (inr read) =
-      subst (λ (l : List ℕ). Runs input (output ++ l) (results ++ (xs ++ ys)) ends.NoMemory) (append-nil more)
-      (regrouped input output more [] results xs ys ends.NoMemory
-      (cut_off old ends.NoMemory input (output ++ more) (results ++ xs) ys read.0 new.frames read.1 0 s read.2 (λ fs o p. p) (λ i bs a. tt)))
-
-  pub since_none : (a b c : C) (first old new after : Session) (s0 s1 : SinkState) (taken : ℕ) (e : NoMemory) → Since stands seat a b first old s0 s1 → Steps stands seat b c old new (Err e)
-      → AnswersAll stands seat a c first after s0 s1 taken (Err ends.NoMemory)
-  since_none a b c first old new after s0 s1 taken e since st = record {
-    ran = since.ran ++ st.ran;
-    out = since.out;
-    keeps = all_kept a b c first old new s0 s1 (Err e) since st;
-    gets = since.gets;
-    cause = since.counts;
-    continues = λ input output results counts s. none_told old new e input output since.out results since.ran st.ran (since.continues input output results s) st.step;
-  }
-
-pub at_step : {C : Type 0} (stands : C → Plain → List Entry → Type 0) (seat seat' : ℕ) (caller caller' : C) (old new : Session) (step step' : Step) → seat ≡ seat' → step ≡ step'
-    → Steps stands seat caller caller' old new (Ok step) → Steps stands seat' caller caller' old new (Ok step')
-at_step stands seat seat' caller caller' old new step step' e f st =
-    subst (λ (s : ℕ). Steps stands s caller caller' old new (Ok step')) e (subst (λ (t : Step). Steps stands seat caller caller' old new (Ok t)) f st)
-
--- a frame that was read is no longer in the input
-pub steps_shorter : {C : Type 0} (stands : C → Plain → List Entry → Type 0) (seat : ℕ) (caller caller' : C) (old new : Session) → Steps stands seat caller caller' old new (Ok steps.Out)
-    → length new.frames < length old.frames
-steps_shorter stands seat caller caller' old new st =
-    let inside = front-inside (least_of old.is_open) frames.max_body old.frames st.step.0 new.frames st.step.1.found in
-    omega (arith, inside.0, ap length inside.1, length-drop (4 + length st.step.0) old.frames)
+  -- the call was answered, and there was no memory for the reply
+  pub since_lost : {A : Type 0} (c : C) (mid new : State) (call : Call) (got : Got) → IsSound old → (steps.Run call, mid) ≡ next_step old → StandsOn stands b c (entry_of seat call got) → IsSpent mid new []
+      → AnswersAll {A = A} stands seat a c first new s0 s1 (Err ends.NoMemory)
+  since_lost {A} c mid new call got sound e keeps spent =
+      let hands : HandsOut old mid = run_step old mid call e in
+      let now : Since stands seat a c first new s0 s1 = since_ran stands seat a b c first old new s0 s1 call got since (spent.cfg ∙ hands.cfg) keeps
+      (λ input ran output stood. lost_stands mid input ran call got output (run_stands mid call sound e input ran output stood) new spent) in
+      since_ended stands seat {A = A} a c first new s0 s1 ends.NoMemory now (λ counts. counts)
+      (λ input ran output within stood. (fault_is_end new input ran output within stood).1)

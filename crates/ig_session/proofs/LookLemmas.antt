@@ -1,58 +1,91 @@
--- What a stream begins with.
-use Rattle.std.proofs.Common.{◌≡◌, ℕ, ℤ, pos, negsuc, ◌+◌, ◌-◌, ◌≤◌, ◌&&◌, List, length, length-take-le, take, drop, Option, None, Some, sym, ap, ◌∙◌, arith, inl, inr}
-use Rattle.std.specs.Prelude.{nat_lt, nat_le}
-use Rattle.std.specs.Int.{w32}
-use Rattle.std.proofs.lemmas.Bool.{cases_Bool, cases_lt, cond-true, cond-false, le-ltb, lt-ltb, leb-true, and_parts}
-use Rattle.ig_base.specs.Numbers.{number_at}
-use Rattle.ig_base.specs.Frames.{Body, Bad, Incomplete, front, front_from, front_sized, max_body}
-use Rattle.ig_base.proofs.FrameLemmas.{front-inside}
-use Rattle.ig_session.specs.Looks.{len_in_range}
+-- What comes next, from what the parts of a session are.
+use Rattle.std.proofs.Common.{◌≡◌, ℕ, ℤ, List, [], ◌∷◌, if◌then◌else◌, Result, Ok, Err, refl, sym, ap, ◌∙◌}
+use Rattle.std.specs.Prelude.{IfOk}
+use Rattle.std.specs.Result.{result_map_both}
+use Rattle.ig_base.specs.Frames.{client, Front, Body, Bad, Incomplete}
+use Rattle.ig_frame.specs.Streams.{front_at}
+use Rattle.ig_wire.specs.declared.ask.AskFault.{AskFault}
+use Rattle.ig_wire.specs.declared.ask.AskFault.TheVariants as ask
+use Rattle.ig_wire.specs.declared.head.Fault.{Fault}
+use Rattle.ig_wire.specs.declared.version.Version.{Version}
+use Rattle.ig_fields.specs.AskAnswers.{AnswersAs}
+use Rattle.ig_caches.specs.declared.request.Request.{Request}
+use Rattle.ig_deals.specs.Asks.{Asked, asked_in, id_in, request_in}
+use Rattle.ig_deals.specs.Desk.{Desk}
+use Rattle.ig_deals.specs.Faults.{refusal_of}
+use Rattle.ig_deals.specs.Hellos.{greeting_of}
+use Rattle.ig_replies.specs.declared.terms.Terms.{Terms}
+use Rattle.ig_session.specs.declared.phase.Phase.{Phase}
+use Rattle.ig_session.specs.declared.phase.Phase.TheVariants.{BeforeHello, Open, Refused, OutOfMemory}
+use Rattle.ig_session.specs.declared.coming.Coming.{Coming as HeldComing}
+use Rattle.ig_session.specs.Comings.{Coming, Replies, Greets, Asks, least_in, waits, found, coming_in, coming}
+use Rattle.ig_session.specs.Requests.{asked_said, coming_said}
+use Rattle.ig_session.specs.States.{State}
 
-sized : (least : ℕ) (bytes : List ℕ) (z : ℤ) (len : ℕ) → len_in_range least z ≡ Some len → front_from least max_body bytes (Some z) ≡ front_sized len (drop 4 bytes)
-sized least bytes (negsuc n) len e = cc
-sized least bytes (pos n) len e = elim (cases_Bool (nat_le least n && nat_le n max_body)) [
-  | inl fits ↦
-      let some = cond-true (nat_le least n && nat_le n max_body) (Some n) None fits in
-      let same : n ≡ len = cc in
-      cond-true (nat_le least n && nat_le n max_body) _ _ fits ∙ ap (λ k. front_sized k (drop 4 bytes)) same
-  | inr out ↦ let none = cond-false (nat_le least n && nat_le n max_body) (Some n) None out in cc
-]
+-- ---- what waits comes first
 
--- a whole frame is found where its length is in range and as many bytes follow
-pub look_body : (least : ℕ) (bytes : List ℕ) (z : ℤ) (len : ℕ) → number_at w32 bytes 0 ≡ Some z → len_in_range least z ≡ Some len → len ≤ length (drop 4 bytes)
-    → front least max_body bytes ≡ Body (take len (drop 4 bytes)) (drop len (drop 4 bytes))
-unfolding front
-look_body least bytes z len read range long =
-    ap (front_from least max_body bytes) read ∙ sized least bytes z len range ∙ cond-false (nat_lt (length (drop 4 bytes)) len) _ _ (le-ltb _ _ long)
+pub replies_first : (s : State) → (s.waiting.frames ≡ [] → ⊥) → coming s ≡ Replies
+unfolding coming
+replies_first s some = by s.waiting.frames some where
+  by : (frames : List (List ℕ)) → (frames ≡ [] → ⊥) → (if waits frames then Replies else coming_in s s.phase) ≡ Replies
+  by [] some = absurd (some refl)
+  by (frame ∷ frames) some = refl
 
--- after a whole frame that is found comes the rest of the stream
-pub passed : (least : ℕ) (bytes body new : List ℕ) (after : List ℕ) → front least max_body bytes ≡ Body body after → new ≡ drop (4 + length body) bytes → front least max_body bytes ≡ Body body new
-passed least bytes body new after found gone = found ∙ ap (Body body) (sym (gone ∙ (front-inside least max_body bytes body after found).1))
+pub next_by_phase : (s : State) (phase : Phase) → s.waiting.frames ≡ [] → s.phase ≡ phase → coming s ≡ coming_in s phase
+unfolding coming
+next_by_phase s phase none is = ap (λ (l : List (List ℕ)). if waits l then Replies else coming_in s s.phase) none ∙ ap (coming_in s) is
 
-pub inside : (least : ℕ) (bytes body after : List ℕ) → front least max_body bytes ≡ Body body after → 4 + length body ≤ length bytes
-inside least bytes body after found = (front-inside least max_body bytes body after found).0
+-- what comes next doesn't depend on the desk
+same_found : (s : State) (desk : Desk) (reads : List ℕ → Coming) (f : Front) → found (record s { desk = desk }) reads f ≡ found s reads f
+same_found s desk reads (Body body rest) = refl
+same_found s desk reads (Bad n) = refl
+same_found s desk reads (Incomplete missing) = refl
 
-sized_length : (n : ℕ) (bytes body rest : List ℕ) → front_sized n bytes ≡ Body body rest → length body ≡ n
-sized_length n bytes body rest h = elim (cases_lt (length bytes) n) [
-  | inl short ↦ let part = cond-true (nat_lt (length bytes) n) (Incomplete (n - length bytes)) (Body (take n bytes) (drop n bytes)) (lt-ltb _ _ short) in cc
-  | inr long ↦
-      let whole = cond-false (nat_lt (length bytes) n) (Incomplete (n - length bytes)) (Body (take n bytes) (drop n bytes)) (le-ltb _ _ long) in
-      let same : body ≡ take n bytes = cc in
-      ap length same ∙ length-take-le n bytes long
-]
+same_in : (s : State) (desk : Desk) (phase : Phase) → coming_in (record s { desk = desk }) phase ≡ coming_in s phase
+same_in s desk BeforeHello = same_found s desk (λ hello. Greets (greeting_of hello)) (front_at client.first s.stream)
+same_in s desk (Open terms) = same_found s desk (λ body. Asks terms (asked_in terms.version body)) (front_at client.later s.stream)
+same_in s desk (Refused fault) = refl
+same_in s desk OutOfMemory = refl
 
-ranged : (least : ℕ) (bytes body rest : List ℕ) (read : Option ℤ) → front_from least max_body bytes read ≡ Body body rest → (least ≤ length body) × (length body ≤ max_body)
-ranged least bytes body rest None h = cc
-ranged least bytes body rest (Some (negsuc n)) h = cc
-ranged least bytes body rest (Some (pos n)) h = elim (cases_Bool (nat_le least n && nat_le n max_body)) [
-  | inl fits ↦
-      let both = and_parts (nat_le least n) (nat_le n max_body) fits in
-      let len : length body ≡ n = sized_length n (drop 4 bytes) body rest (sym (cond-true (nat_le least n && nat_le n max_body) (front_sized n (drop 4 bytes)) (Bad (pos n)) fits) ∙ h) in
-      (omega (arith, len, leb-true least n both.0), omega (arith, len, leb-true n max_body both.1))
-  | inr out ↦ let bad = cond-false (nat_le least n && nat_le n max_body) (front_sized n (drop 4 bytes)) (Bad (pos n)) out in cc
-]
+pub same_coming : (s : State) (desk : Desk) → coming (record s { desk = desk }) ≡ coming s
+unfolding coming
+same_coming s desk = ap (λ (c : Coming). if waits s.waiting.frames then Replies else c) (same_in s desk s.phase)
 
--- the length of a body that is found is in range
-pub body_range : (least : ℕ) (bytes body rest : List ℕ) → front least max_body bytes ≡ Body body rest → (least ≤ length body) × (length body ≤ max_body)
-unfolding front
-body_range least bytes body rest h = ranged least bytes body rest (number_at w32 bytes 0) h
+-- ---- what stands at the place of the stream
+
+pub front_here : (held now : State) (least : ℕ) (phase : Phase) (f : Front) → held ≡ now → least ≡ least_in held.phase → now.phase ≡ phase → front_at least held.stream ≡ f
+    → front_at (least_in phase) now.stream ≡ f
+front_here held now least phase f is l p e =
+    ap (λ (q : Phase). front_at (least_in q) now.stream) (sym p) ∙ sym (ap (λ (s : State). front_at (least_in s.phase) s.stream) is)
+    ∙ ap (λ (n : ℕ). front_at n held.stream) (sym l) ∙ e
+
+pub hello_next : (held now : State) (least : ℕ) (f : Front) → held ≡ now → least ≡ least_in held.phase → now.phase ≡ BeforeHello → now.waiting.frames ≡ [] → front_at least held.stream ≡ f
+    → found now (λ hello. Greets (greeting_of hello)) f ≡ coming now
+hello_next held now least f is l p none e =
+    sym (next_by_phase now BeforeHello none p ∙ ap (found now (λ hello. Greets (greeting_of hello))) (front_here held now least BeforeHello f is l p e))
+
+pub request_next : (held now : State) (least : ℕ) (terms : Terms) (f : Front) → held ≡ now → least ≡ least_in held.phase → now.phase ≡ Open terms → now.waiting.frames ≡ []
+    → front_at least held.stream ≡ f → found now (λ body. Asks terms (asked_in terms.version body)) f ≡ coming now
+request_next held now least terms f is l p none e =
+    sym (next_by_phase now (Open terms) none p ∙ ap (found now (λ body. Asks terms (asked_in terms.version body))) (front_here held now least (Open terms) f is l p e))
+
+-- ---- what a request asks
+
+request_said : (expected : Result Request AskFault) (read : Result Request AskFault) → (read ≡ Err ask.NoMemory → ⊥) → AnswersAs expected read
+    → result_map_both (λ r. r) refusal_of read ≡ result_map_both (λ r. r) refusal_of expected
+request_said expected (Ok r) never answers = ap (result_map_both (λ r. r) refusal_of) (sym answers)
+request_said expected (Err ask.NoMemory) never answers = absurd (never refl)
+request_said expected (Err ask.NotMine) never answers = ap (result_map_both (λ r. r) refusal_of) (sym answers)
+request_said expected (Err (ask.Unread place)) never answers = ap (result_map_both (λ r. r) refusal_of) (sym answers)
+request_said expected (Err (ask.Profile profile)) never answers = ap (result_map_both (λ r. r) refusal_of) (sym answers)
+
+pub said_asked : (v : Version) (body : List ℕ) (id : ℤ) (read : Result Request AskFault) → id ≡ id_in body → (read ≡ Err ask.NoMemory → ⊥) → AnswersAs (request_in v body) read
+    → asked_said id read ≡ asked_in v body
+unfolding asked_in
+said_asked v body id read is never answers =
+    ap (λ (i : ℤ). asked_said i read) is ∙ ap (λ (r : Result Request Fault). record { id = id_in body; request = r }) (request_said (request_in v body) read never answers)
+
+-- what comes next is what was read
+pub if_next : {E : Type 0} (next now : Coming) (read : Result HeldComing E) → next ≡ now → IfOk read (λ said. coming_said said ≡ next) → IfOk read (λ said. coming_said said ≡ now)
+if_next next now (Ok said) is e = e ∙ is
+if_next next now (Err lack) is e = tt

@@ -1,67 +1,66 @@
--- What a request asks.
-use Rattle.std.specs.Prelude.{ℕ, suc, ◌+◌, ◌-◌, ℤ, pos, Bool, true, false, ◌||◌, List, [], ◌∷◌, length, drop, unwrap_or, Result, Ok, Err, if◌then◌else◌}
-use Rattle.std.specs.Ordering.{int_eq}
-use Rattle.std.specs.Int.{w16, w64}
-use Rattle.ig_base.specs.Numbers.{number_at}
-use Rattle.ig_value.specs.Part.{i8, i32}
-use Rattle.ig_value.specs.Reading.{Read, scalar_at, both_at, reading}
-use Rattle.ig_value.specs.declared.value.Value.{Value}
-use Rattle.ig_value.specs.declared.value.Value.TheVariants.{Null}
-use Rattle.ig_session.specs.Caches.{IsSound}
-use Rattle.ig_session.specs.declared.caches.Call.TheVariants.{Get, Put}
-use Rattle.ig_session.specs.declared.ops.Refusal.TheVariants.{InvalidOperation, Malformed, NullKeyOrValue}
-use Rattle.ig_session.specs.declared.ops.Ask.{Ask}
-use Rattle.ig_session.specs.declared.ops.Ask.TheVariants.{Run, Refuse}
-use Rattle.ig_session.specs.declared.ops.Asked.{Asked}
-
--- The fields of an operation on one key: the cache's identifier, a byte of flags that the server ignores, the key, and for a
--- put the value.
-abbrev pub cache_at : List ℕ → Read (ℤ × ℤ)
-cache_at = both_at (scalar_at i32) (scalar_at i8)
-
-abbrev pub get_at : List ℕ → Read ((ℤ × ℤ) × Value)
-get_at = both_at cache_at reading
-
-abbrev pub put_at : List ℕ → Read (((ℤ × ℤ) × Value) × Value)
-put_at = both_at get_at reading
-
--- the fields where they are all of the bytes, or how many bytes are left where they are malformed or end too early
-abbrev pub whole : {A : Type 0} → Read A → Result A ℕ
-whole (Ok (x, [])) = Ok x
-whole (Ok (x, (byte ∷ bytes))) = Err (suc (length bytes))
-whole (Err fault) = Err fault.0
-
--- the offset from the first byte of the frame's length at which `left` bytes of the body are left
-abbrev pub frame_place : List ℕ → ℕ → ℕ
-frame_place body left = 4 + (length body - left)
-
-abbrev pub is_null : Value → Bool
-is_null Null = true
-is_null _ = false
-
--- a null key or value is refused
-abbrev pub asked_get : List ℕ → Result ((ℤ × ℤ) × Value) ℕ → Ask
-asked_get body (Ok ((cache, flags), key)) = if is_null key then Refuse NullKeyOrValue else Run (Get cache key)
-asked_get body (Err left) = Refuse (Malformed (frame_place body left))
-
-abbrev pub asked_put : List ℕ → Result (((ℤ × ℤ) × Value) × Value) ℕ → Ask
-asked_put body (Ok (((cache, flags), key), value)) = if is_null key || is_null value then Refuse NullKeyOrValue else Run (Put cache key value)
-asked_put body (Err left) = Refuse (Malformed (frame_place body left))
-
--- what a body asks, by its operation; the fields come after the operation and the identifier
-abbrev pub ask_by : ℤ → List ℕ → Ask
-ask_by operation body =
-    if int_eq operation (pos 1000) then asked_get body (whole (get_at (drop 10 body)))
-    else (if int_eq operation (pos 1001) then asked_put body (whole (put_at (drop 10 body))) else Refuse InvalidOperation)
-
--- A request: its operation, its identifier, and its fields.
-unfoldable pub ask_of : List ℕ → Asked
-ask_of body = record {
-  id = unwrap_or (number_at w64 body 2) (pos 0);
-  ask = ask_by (unwrap_or (number_at w16 body 0) (pos 0)) body;
-}
+-- Requests that can be served.
+use Rattle.std.specs.Prelude.{◌≡◌, ℤ, Result, Ok, Err}
+use Rattle.std.specs.Result.{result_map_both}
+use Rattle.ig_wire.specs.declared.ask.AskFault.{AskFault}
+use Rattle.ig_caches.specs.declared.request.Request.{Request}
+use Rattle.ig_caches.specs.declared.request.Request.TheVariants.{Run}
+use Rattle.ig_caches.specs.IsRunnable.{IsRunnable}
+use Rattle.ig_deals.specs.Faults.{refusal_of}
+use Rattle.ig_deals.specs.Hellos.{Greeting}
+use Rattle.ig_deals.specs.Asks.{Asked}
+use Rattle.ig_replies.specs.declared.terms.Terms.{Terms}
+use Rattle.ig_session.specs.States.{State}
+use Rattle.ig_deals.specs.declared.end.SessionEnd.{SessionEnd}
+use Rattle.ig_session.specs.declared.coming.Coming.{Coming as HeldComing}
+use Rattle.ig_session.specs.declared.coming.Coming.TheVariants as held
+use Rattle.ig_session.specs.declared.step.Step.{Step}
+use Rattle.ig_session.specs.declared.step.Step.TheVariants as steps
+use Rattle.ig_session.specs.declared.step.Ahead.{Ahead}
+use Rattle.ig_session.specs.declared.step.Ahead.TheVariants as ahead
+use Rattle.ig_session.specs.Comings.{Coming, Replies, Stops, Misses, Greets, Asks, coming}
 
 -- the call of a request may be run
-abbrev pub IsSoundAsk : Ask → Type 0
-IsSoundAsk (Run call) = IsSound call
-IsSoundAsk (Refuse why) = Unit {0}
+abbrev pub CanServe : Request → Type 0
+CanServe (Run call) = IsRunnable call
+CanServe request = Unit {0}
+
+-- what the code found to come next
+abbrev pub asked_said : ℤ → Result Request AskFault → Asked
+asked_said id asked = record { id = id; request = result_map_both (λ r. r) refusal_of asked }
+
+abbrev pub coming_said : HeldComing → Coming
+coming_said held.Replies = Replies
+coming_said (held.Stops end) = Stops end
+coming_said (held.Misses missing) = Misses missing
+coming_said (held.Greets greeting) = Greets greeting
+coming_said (held.Asks terms id asked) = Asks terms (asked_said id asked)
+
+-- a call that is handed out may be run
+abbrev pub HandsRunnable : Step → Type 0
+HandsRunnable (steps.Run call) = IsRunnable call
+HandsRunnable step = Unit {0}
+
+abbrev pub HandsRunnableAhead : Ahead → Type 0
+HandsRunnableAhead (ahead.Run nth call) = IsRunnable call
+HandsRunnableAhead step = Unit {0}
+
+abbrev pub CanServeAsked : Result Request AskFault → Type 0
+CanServeAsked (Ok request) = CanServe request
+CanServeAsked (Err fault) = Unit {0}
+
+abbrev pub IsServable : HeldComing → Type 0
+IsServable (held.Asks terms id asked) = CanServeAsked asked
+IsServable next = Unit {0}
+
+-- a whole hello comes next
+abbrev pub ComesHello : State → Type 0
+ComesHello s = (greeting : Greeting) × (coming s ≡ Greets greeting)
+
+-- a whole request comes next
+abbrev pub ComesAny : State → Type 0
+ComesAny s = (terms : Terms) × (asked : Asked) × (coming s ≡ Asks terms asked)
+
+-- the same of this request, whose call may be run
+pub record ComesRequest (s : State) (terms : Terms) (id : ℤ) (asked : Result Request AskFault) : Type 0 where
+  pub comes : coming s ≡ Asks terms (asked_said id asked)
+  pub serves : CanServeAsked asked

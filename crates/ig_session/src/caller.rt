@@ -2,8 +2,8 @@
 
 ghost use Rattle.std.specs.Prelude.{◌≡◌};
 
-use crate::caches::{Answer, Call, Exec};
 use ig_base::NoRoom;
+use ig_caches::{Answer, Call, Exec};
 
 /// Runs calls one after another, and records each under the number of a seat.
 ///
@@ -11,8 +11,13 @@ use ig_base::NoRoom;
 /// [`Alone`] does, or borrow a seat at an object that others call too.
 pub trait Caller {
     ghost use Rattle.std.specs.Prelude.{◌≡◌, ℕ, List, [], ◌∷◌, IfOk, OnErr, IfErr};
-    ghost use Rattle.ig_session.specs.Caches.{Plain, IsSound, FitsOutcome};
-    ghost use Rattle.ig_session.specs.Histories.{Entry, StandsOn};
+    ghost use Rattle.ig_base.specs.declared.entry.Entry.{Entry};
+    ghost use Rattle.ig_caches.specs.declared.call.Call.{Call};
+    ghost use Rattle.ig_caches.specs.declared.answer.Answer.{Answer};
+    ghost use Rattle.ig_caches.specs.PlainCaches.{PlainCaches};
+    ghost use Rattle.ig_caches.specs.IsRunnable.{IsRunnable};
+    ghost use Rattle.ig_caches.specs.AnswersKind.{AnswersKind};
+    ghost use Rattle.ig_session.specs.Histories.{StandsOn};
 
     /// The number of its seat, under which its entries are recorded.
     ghost seat: { Self → ℕ };
@@ -28,15 +33,18 @@ pub trait Caller {
     ghost kept: { Self → Self.Kept };
 
     /// The histories that it may have: the caches at the start, and the entries of its own since.
-    ghost stands: { Self → Plain → List Entry → Type 0 };
+    ghost stands: { Self → PlainCaches → List (Entry Call Answer) → Type 0 };
 
-    /// Runs a call and adds one entry for it. When out of memory, it hands the call back and adds
-    /// no entry.
+    /// Runs a call and adds one entry for it.
+    ///
+    /// # Errors
+    ///
+    /// [`NoRoom`] with the call if memory runs out. No entry is added.
     fn run(&mut self, call: Call) -> Result<Answer, NoRoom<Call>>
-        requires { IsSound call }
+        requires { IsRunnable call }
         ensures ok { IfOk result (λ answer. StandsOn stands self.old self.new
-            (record { seat = seat self.old; call = call; answer = answer } ∷ [])) }
-        ensures fits { IfOk result (λ answer. FitsOutcome call answer.outcome) }
+            (record { seat = seat self.old; ask = call; got = answer } ∷ [])) }
+        ensures fits { IfOk result (λ answer. AnswersKind call answer.outcome) }
         ensures err { OnErr result (StandsOn stands self.old self.new []) }
         ensures back { IfErr result (λ e. e.back ≡ call) }
         ensures seat { seat self.new ≡ seat self.old }
@@ -52,7 +60,7 @@ pub struct Alone<E> {
 
 impl<E: Exec> Alone<E> {
     ghost use Rattle.std.specs.Prelude.{◌≡◌, []};
-    ghost use Rattle.ig_session.specs.Standing.{StandsAlone};
+    ghost use Rattle.ig_session.specs.StandsAlone.{StandsAlone};
 
     /// A caller whose history begins with the object's caches, without entries.
     pub fn new(exec: E) -> Alone<E>
@@ -64,7 +72,7 @@ impl<E: Exec> Alone<E> {
 
 impl<E: Exec> Caller for Alone<E> {
     ghost use Rattle.std.specs.Prelude.{[]};
-    ghost use Rattle.ig_session.specs.Standing.{StandsAlone};
+    ghost use Rattle.ig_session.specs.StandsAlone.{StandsAlone};
 
     ghost seat = { λ _. 0 };
 

@@ -1,112 +1,128 @@
-//! The loop that serves a session: it reads the input in pieces, feeds them to the session, and
-//! writes the replies.
+//! The loop that serves a session: it reads the input in pieces, feeds them to the session, runs its
+//! calls, and writes the replies. A piece is read only where no whole frame is left and no reply waits.
 
-ghost use Rattle.std.specs.Prelude.{◌≡◌, ◌<◌, ◌≤◌, length};
-ghost use Rattle.ig_session.specs.Serves.{byte_limit};
-ghost use Rattle.ig_session.specs.Ends.{end_at};
-ghost use Rattle.ig_session.specs.Serving.{TakesPiece, AnswersAll, Served};
+ghost use Rattle.std.specs.Prelude.{◌≡◌, ◌<◌, ◌≤◌, ◌+◌, [], length};
+ghost use Rattle.ig_wire.specs.Limits.{most_session_bytes, piece_bytes};
+ghost use Rattle.ig_session.specs.Cfg.{IsCfg};
+ghost use Rattle.ig_session.specs.Comings.{IsPaused};
+ghost use Rattle.ig_session.specs.Soundness.{IsSound};
+ghost use Rattle.ig_session.specs.Serving.{TakesPiece, AnswersAll, SendsWaiting, GivesAnswer, Served};
+ghost use Rattle.ig_caches.specs.IsRunnable.{IsRunnable};
+ghost use Rattle.ig_deals.specs.Deals.{Got as a_got, entry_of};
+ghost use Rattle.ig_session.specs.Histories.{StandsOn};
 
 use crate::caller::Caller;
-use crate::end::{SessionCfg, SessionEnd};
-use crate::session::{Session, Step};
+use crate::session::Session;
+use crate::step::Step;
+use ig_caches::Call;
+use ig_deals::{SessionCfg, SessionEnd};
 use ig_link::{Duplex, Sink, Source, Take, send_all};
+use ig_wire::{PIECE, SESSION_BYTES};
 use std::alloc::Global;
 
-/// The most bytes that one read takes.
-const PIECE: usize = 65_536;
-
-/// The most bytes that a session takes of its input.
-const BYTE_LIMIT: u64 = 1 << 48;
-
-/// How a session ends whose input has ended, where `missing` more bytes would complete the next
-/// length or frame.
-fn end_of_input(session: &Session, missing: usize) -> SessionEnd
-    ensures { result ≡ end_at session.now missing }
-{
-    if session.is_open && session.frames.len() == 0 {
-        SessionEnd::Ended
-    } else {
-        SessionEnd::Truncated {
-            missing: missing as u64,
-        }
-    }
-}
-
-/// Reads the next piece of the input and feeds it to the session. Returns how many bytes were taken
-/// in all, or the end of the session.
+/// Reads the next piece of the input and feeds it to the session, which waits for more input. Returns how
+/// many bytes were taken in all, or the end of the session.
 fn take_piece<S: Source>(
     session: &mut Session,
     source: &mut S,
     buf: &mut [u8],
     taken: u64,
-    missing: usize,
 ) -> Result<u64, SessionEnd>
-    requires room { 0 < length buf.old }
-    requires within { taken ≤ byte_limit }
+    requires sound { IsSound session.old }
+    requires paused { IsPaused session.old }
+    requires none { session.old.out ≡ [] }
+    requires room { length buf.old ≡ piece_bytes }
+    requires within { taken ≤ most_session_bytes }
+    requires counts { session.old.stream.place + length session.old.stream.rest ≡ taken }
     ensures takes { TakesPiece session.old session.new (S.source source.old) (S.source source.new)
-        taken missing result }
+        taken result }
     ensures beside { S.sink_beside source.new ≡ S.sink_beside source.old }
 {
-    if taken >= BYTE_LIMIT {
+    if taken >= SESSION_BYTES {
         return Err(SessionEnd::ByteLimit);
     }
-    let room = (BYTE_LIMIT - taken).min(buf.len() as u64) as usize;
+    let room = (SESSION_BYTES - taken).min(buf.len() as u64) as usize;
     match source.read(&mut buf[..room]) {
-        Take::End => Err(end_of_input(session, missing)),
+        Take::End => Err(session.end_input()),
         Take::Failed => Err(SessionEnd::ReadFault),
-        Take::Bytes(n) => match session.frames.feed(&buf[..n]) {
+        Take::Bytes(n) => match session.feed(&buf[..n]) {
             Ok(()) => Ok(taken + n as u64),
             Err(_) => Err(SessionEnd::NoMemory),
         },
     }
 }
 
-/// Answers each whole frame, in order. Returns how many more bytes complete the next length or
-/// frame, or the end of the session.
+/// Writes all that waits.
+fn send_waiting<K: Sink>(session: &mut Session, sink: &mut K) -> Result<(), SessionEnd>
+    ensures sends { SendsWaiting session.old session.new (K.sink sink.old) (K.sink sink.new) result }
+    ensures beside { K.source_beside sink.new ≡ K.source_beside sink.old }
+{
+    'pieces: while !session.waiting().is_empty() {
+        let waiting = session.waiting();
+        let count = waiting.len();
+        match send_all(sink, waiting) {
+            Ok(()) => session.gone(count),
+            Err(_) => return Err(SessionEnd::WriteFault),
+        }
+    }
+    Ok(())
+}
+
+/// Runs a call, and gives the answer to the session.
+fn run_call<C: Caller>(session: &mut Session, caller: &mut C, call: Call) -> Result<(), SessionEnd>
+    requires out { length session.old.out ≡ 1 }
+    requires runnable { IsRunnable call }
+    ensures runs { (got : a_got) × StandsOn C.stands caller.old caller.new
+        (entry_of (C.seat caller.old) call got) × GivesAnswer session.old session.new got result }
+    ensures seat { C.seat caller.new ≡ C.seat caller.old }
+    ensures lent { C.lent caller.new ≡ C.lent caller.old }
+    ensures kept { C.kept caller.new ≡ C.kept caller.old }
+{
+    let got = caller.run(call);
+    match session.answer(got) {
+        Ok(()) => Ok(()),
+        Err(_) => Err(SessionEnd::NoMemory),
+    }
+}
+
+/// Answers each whole frame, in order. Returns the end of the session if it comes before it waits for
+/// more input.
 fn answer_all<C: Caller, K: Sink>(
-    alloc: Global,
     session: &mut Session,
     caller: &mut C,
     sink: &mut K,
-    taken: u64,
-) -> Result<usize, SessionEnd>
+) -> Result<(), SessionEnd>
+    requires none { session.old.out ≡ [] }
     ensures answers { AnswersAll C.stands (C.seat caller.old) caller.old caller.new
-        session.old session.new (K.sink sink.old) (K.sink sink.new) taken result }
+        session.old session.new (K.sink sink.old) (K.sink sink.new) result }
     ensures seat { C.seat caller.new ≡ C.seat caller.old }
     ensures lent { C.lent caller.new ≡ C.lent caller.old }
     ensures kept { C.kept caller.new ≡ C.kept caller.old }
     ensures beside { K.source_beside sink.new ≡ K.source_beside sink.old }
 {
-    'frames: loop {
-        match session.advance(alloc, caller) {
+    'steps: loop {
+        match session.next_request() {
             Err(_) => return Err(SessionEnd::NoMemory),
-            Ok(Step::More(missing)) => return Ok(missing),
-            Ok(Step::Bad(length)) => {
-                let place = taken.saturating_sub(session.frames.len() as u64);
-                return Err(SessionEnd::BadFrame { place, length });
-            }
-            Ok(Step::Out) => match send_all(sink, session.reply.as_slice()) {
-                Ok(()) => {}
-                Err(_) => return Err(SessionEnd::WriteFault),
-            },
-            Ok(Step::Refused(fault)) => match send_all(sink, session.reply.as_slice()) {
-                Ok(()) => return Err(SessionEnd::HelloRefused(fault)),
-                Err(_) => return Err(SessionEnd::WriteFault),
-            },
+            Ok(Step::More { .. }) => return Ok(()),
+            Ok(Step::Stop(end)) => return Err(end),
+            Ok(Step::Out) => send_waiting(session, sink)?,
+            Ok(Step::Run(call)) => run_call(session, caller, call)?,
         }
     }
 }
 
-/// Serves a session with a separate source and sink: reads the input in pieces of at most 64 KiB,
-/// answers each whole frame, in order, and returns at the first thing that ends the session.
+/// Serves a session with a separate source and sink: reads the input in pieces of at most 65,536 bytes,
+/// answers each whole frame, in order, before it reads again, and returns at the first thing that
+/// ends the session. The replies to whole frames before a stop for the input are written.
 pub fn serve_ends<C: Caller, S: Source, K: Sink>(
     alloc: Global,
     caller: &mut C,
     source: &mut S,
     sink: &mut K,
-    _cfg: &SessionCfg,
+    cfg: &SessionCfg,
 ) -> SessionEnd
-    ensures served { Served C.stands (C.seat caller.old) caller.old caller.new
+    requires { IsCfg cfg.now }
+    ensures served { Served C.stands (C.seat caller.old) cfg.now caller.old caller.new
         (S.source source.old) (S.source source.new) (K.sink sink.old) (K.sink sink.new) result }
     ensures seat { C.seat caller.new ≡ C.seat caller.old }
     ensures lent { C.lent caller.new ≡ C.lent caller.old }
@@ -115,17 +131,17 @@ pub fn serve_ends<C: Caller, S: Source, K: Sink>(
     let Ok(mut buf) = vec![in alloc; 0u8; PIECE] else {
         return SessionEnd::NoMemory;
     };
-    let mut session = Session::new(alloc);
+    let Ok(mut session) = Session::new(alloc, *cfg) else {
+        return SessionEnd::NoMemory;
+    };
     let mut taken = 0;
-    let mut missing = 4;
     'pieces: loop {
-        match take_piece(&mut session, source, &mut buf, taken, missing) {
+        match take_piece(&mut session, source, &mut buf, taken) {
             Ok(more) => taken = more,
             Err(end) => return end,
         }
-        match answer_all(alloc, &mut session, caller, sink, taken) {
-            Ok(more) => missing = more,
-            Err(end) => return end,
+        if let Err(end) = answer_all(&mut session, caller, sink) {
+            return end;
         }
     }
 }
@@ -135,9 +151,10 @@ pub fn serve_link<C: Caller, L: Duplex>(
     alloc: Global,
     caller: &mut C,
     link: &mut L,
-    _cfg: &SessionCfg,
+    cfg: &SessionCfg,
 ) -> SessionEnd
-    ensures served { Served C.stands (C.seat caller.old) caller.old caller.new
+    requires { IsCfg cfg.now }
+    ensures served { Served C.stands (C.seat caller.old) cfg.now caller.old caller.new
         (L.source link.old) (L.source link.new) (L.sink link.old) (L.sink link.new) result }
     ensures seat { C.seat caller.new ≡ C.seat caller.old }
     ensures lent { C.lent caller.new ≡ C.lent caller.old }
@@ -146,17 +163,17 @@ pub fn serve_link<C: Caller, L: Duplex>(
     let Ok(mut buf) = vec![in alloc; 0u8; PIECE] else {
         return SessionEnd::NoMemory;
     };
-    let mut session = Session::new(alloc);
+    let Ok(mut session) = Session::new(alloc, *cfg) else {
+        return SessionEnd::NoMemory;
+    };
     let mut taken = 0;
-    let mut missing = 4;
     'pieces: loop {
-        match take_piece(&mut session, link, &mut buf, taken, missing) {
+        match take_piece(&mut session, link, &mut buf, taken) {
             Ok(more) => taken = more,
             Err(end) => return end,
         }
-        match answer_all(alloc, &mut session, caller, link, taken) {
-            Ok(more) => missing = more,
-            Err(end) => return end,
+        if let Err(end) = answer_all(&mut session, caller, link) {
+            return end;
         }
     }
 }

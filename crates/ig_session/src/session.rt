@@ -1,164 +1,155 @@
-//! A session as a state machine: it takes bytes and prepares replies, and neither reads nor writes
-//! a link.
+//! A session as a state machine: it takes bytes, hands out calls and shows replies, and neither reads
+//! nor writes a link.
 
-ghost use Rattle.std.specs.Prelude.{◌≡◌, ◌++◌, ◌<◌, [], length, IfOk, OnOk, OnErr};
-ghost use Rattle.ig_session.specs.Replies.{refused, reply_frame};
-ghost use Rattle.ig_session.specs.Given.{shown_given};
-ghost use Rattle.ig_session.specs.Requests.{IsSoundAsk};
-ghost use Rattle.ig_session.specs.Answers.{Answers};
-ghost use Rattle.ig_session.specs.Bodies.{least_of};
-ghost use Rattle.ig_session.specs.declared.ops.Refusal.TheVariants.{Malformed};
-
-use crate::caches::{Answer, Call, Outcome, Why};
-use crate::caller::Caller;
-use crate::frame::{Frames, Look};
-use crate::ops::{Ask, Asked, Refusal, read_ask};
-use crate::wire::{
-    HelloFault, hello_version, is_hello, put_done, put_fault, put_found, put_hello_reply,
-};
-use ig_base::{NoMemory, NoRoom, Octets};
+use crate::awaited::Awaited;
+use crate::outbox::Outbox;
+use crate::phase::Phase;
+use ig_base::NoMemory;
+use ig_deals::{Desk, SessionCfg, SessionEnd};
+use ig_frame::{Frames, MAX_FRAME, Next};
 use std::alloc::Global;
+use std::marker::Model;
 
-/// What a session did in a step.
+/// The server's side of one connection.
+///
+/// A loop drives it: it asks for the next step until the session wants more input, and then feeds it.
+///
+/// ```text
+///   feed --> next_request --Run(call)--> answer --+
+///    ^          |  ^  ^                           |
+///    |          |  |  +---------------------------+
+///    |          |  +--- gone <-- waiting <---Out--+
+///    +---More---+
+///               +---Stop(end)
+/// ```
+///
+/// Where several calls may be out, [`Session::ahead`] and [`Session::answer_nth`] stand in the place of
+/// `next_request` and `answer`. A session is driven by one of these pairs, never by both.
 #[derive(Drop)]
-pub(crate) enum Step {
-    /// There is no whole frame: this many more bytes complete its length, or the frame.
-    More(usize),
-    /// The next frame has this length, which is out of range.
-    Bad(i32),
-    /// A frame was answered, and the reply is to be written.
-    Out,
-    /// The hello was refused, and the reply that says so is to be written.
-    Refused(HelloFault),
+pub struct Session {
+    pub(crate) alloc: Global,
+    pub(crate) cfg: SessionCfg,
+    pub(crate) frames: Frames,
+    pub(crate) phase: Phase,
+    pub(crate) desk: Desk,
+    pub(crate) out: Vec<Awaited>,
+    pub(crate) handed: u64,
+    pub(crate) outbox: Outbox,
 }
 
-/// A session: the input that it hasn't read, whether a hello was accepted, and the reply to be
-/// written.
-#[derive(Drop)]
-pub(crate) struct Session {
-    pub frames: Frames,
-    pub is_open: bool,
-    pub reply: Octets,
-}
+impl Model for Session {
+    ghost use Rattle.std.specs.Coded.{codes};
+    ghost use Rattle.ig_value.specs.contracts.value.Value as value;
+    ghost use Rattle.ig_session.specs.States.{State, state_of};
+    ghost use Rattle.ig_session.specs.Soundness.{IsSound};
 
-/// The least length of the next body: a hello has at least 8 bytes, a request at least 10.
-fn least_len(is_open: bool) -> usize
-    ensures { result ≡ least_of is_open }
-{
-    if is_open { 10 } else { 8 }
-}
+    ghost Value = { State };
 
-/// Appends the reply to a request that is refused.
-fn put_refusal(alloc: Global, out: &mut Octets, id: i64, refusal: Refusal) -> Result<(), NoMemory>
-    ensures { OnOk result (out.new ≡ out.old ++ reply_frame id (refused refusal)) }
-{
-    match refusal {
-        Refusal::InvalidOperation => put_fault(out, id, 2, "invalid operation code"),
-        Refusal::Malformed { place } => put_malformed(alloc, out, id, place),
-        Refusal::NullKeyOrValue => put_fault(out, id, 1, "null key or value"),
-    }
-}
+    ghost coded = { Prim.hlevel (codes, value.the_row.coded) };
 
-/// Appends the reply to a request whose fields are malformed at an offset.
-fn put_malformed(alloc: Global, out: &mut Octets, id: i64, place: usize) -> Result<(), NoMemory>
-    ensures { OnOk result (out.new ≡ out.old ++ reply_frame id (refused (Malformed place))) }
-{
-    let reason = format!(in alloc; "malformed request at {place}")?;
-    put_fault(out, id, 1, reason.as_str())
-}
+    ghost view = { λ s. state_of s.cfg s.frames s.phase s.desk s.out.items s.handed s.outbox };
 
-/// Appends the reply to a call, by what the caller returned for it.
-fn put_given(
-    alloc: Global,
-    out: &mut Octets,
-    id: i64,
-    given: &Result<Answer, NoRoom<Call>>,
-) -> Result<(), NoMemory>
-    ensures { OnOk result (out.new ≡ out.old ++ reply_frame id (shown_given given.now)) }
-{
-    match given {
-        Err(_) => put_fault(out, id, 9000, "no memory"),
-        Ok(answer) => match &answer.outcome {
-            Outcome::Done => put_done(out, id),
-            Outcome::Found(value) => put_found(alloc, out, id, value),
-            Outcome::Refused(Why::NoCache) => put_fault(out, id, 1000, "cache does not exist"),
-        },
-    }
-}
-
-/// Answers a request: runs its call, if it has one, and appends the reply.
-fn answer_to<C: Caller>(
-    alloc: Global,
-    caller: &mut C,
-    asked: Asked,
-    reply: &mut Octets,
-) -> Result<(), NoMemory>
-    requires { IsSoundAsk asked.ask }
-    ensures answers { Answers C.stands (C.seat caller.old) caller.old caller.new asked result
-        reply.old reply.new }
-    ensures seat { C.seat caller.new ≡ C.seat caller.old }
-    ensures lent { C.lent caller.new ≡ C.lent caller.old }
-    ensures kept { C.kept caller.new ≡ C.kept caller.old }
-{
-    let Asked { id, ask } = asked;
-    match ask {
-        Ask::Refuse(refusal) => put_refusal(alloc, reply, id, refusal),
-        Ask::Run(call) => {
-            let given = caller.run(call);
-            put_given(alloc, reply, id, &given)
-        }
-    }
+    ghost invariant = { λ s. IsSound (state_of s.cfg s.frames s.phase s.desk s.out.items s.handed
+        s.outbox) };
 }
 
 impl Session {
-    ghost use Rattle.std.specs.Prelude.{◌≡◌, ◌++◌, [], length, OnOk, OnErr, false};
-    ghost use Rattle.ig_session.specs.Sessions.{Steps};
+    ghost use Rattle.std.specs.Prelude.{◌≡◌, ◌↔◌, ℕ, ◌≤◌, ◌+◌, [], length, IfOk, OnOk, OnErr};
+    ghost use Rattle.ig_base.specs.Numbers.{AreBytes};
+    ghost use Rattle.ig_replies.specs.Showing.{waiting_none, piece_shown};
+    ghost use Rattle.ig_session.specs.Cfg.{IsCfg};
+    ghost use Rattle.ig_session.specs.States.{new_state};
+    ghost use Rattle.ig_session.specs.Soundness.{most_fed, most_held};
+    ghost use Rattle.ig_deals.specs.declared.end.SessionEnd.TheVariants.{Truncated};
+    ghost use Rattle.ig_session.specs.Comings.{Misses, coming, IsPaused};
+    ghost use Rattle.ig_session.specs.Steps.{fed, written, end_at};
 
-    /// A session that has read nothing.
-    pub fn new(alloc: Global) -> Session
-        ensures frames { result.frames ≡ [] }
-        ensures is_open { result.is_open ≡ false }
+    /// A session that was fed nothing. It takes the room for pieces of replies, and for cursors.
+    pub fn new(alloc: Global, cfg: SessionCfg) -> Result<Session, NoMemory>
+        requires { IsCfg cfg }
+        ensures { IfOk result (λ session. session ≡ new_state cfg) }
     {
-        Session {
-            frames: Frames::new(alloc),
-            is_open: false,
-            reply: Octets::empty(alloc),
+        let frames = Frames::new(alloc, MAX_FRAME);
+        let desk = Desk::new(alloc)?;
+        let out = Vec::new(alloc);
+        let outbox = Outbox::new(alloc)?;
+        Ok(Session {
+            alloc,
+            cfg,
+            frames,
+            phase: Phase::BeforeHello,
+            desk,
+            out,
+            handed: 0,
+            outbox,
+        })
+    }
+
+    // ---- the input
+
+    /// Appends the next piece of the input. On an error nothing was fed.
+    pub fn feed(&mut self, piece: &[u8]) -> Result<(), NoMemory>
+        requires held { length self.old.stream.rest + length piece.now ≤ most_held }
+        requires fed { self.old.stream.place + length self.old.stream.rest + length piece.now
+            ≤ most_fed }
+        ensures ok { OnOk result (self.new ≡ fed self.old piece.now) }
+        ensures err { OnErr result (self.new ≡ self.old) }
+        ensures bytes { AreBytes piece.now }
+    {
+        self.frames.feed(piece)
+    }
+
+    /// How many bytes were fed and not read. Takes no memory.
+    pub fn held(&self) -> u64
+        ensures { result ≡ length self.now.stream.rest }
+    {
+        self.frames.held()
+    }
+
+    /// How the session ends if the input ends here, where it waits for more input and no call is out.
+    /// Takes no memory.
+    pub fn end_input(&mut self) -> SessionEnd
+        requires paused { IsPaused self.old }
+        requires none { self.old.out ≡ [] }
+        ensures end { result ≡ end_at self.old (coming self.old) }
+        ensures same { self.new ≡ self.old }
+    {
+        let Phase::Open(_) = self.phase else {
+            return self.truncated();
+        };
+        if self.frames.held() == 0 {
+            return SessionEnd::Ended;
+        }
+        self.truncated()
+    }
+
+    /// How the session ends if the input ends inside a frame.
+    fn truncated(&self) -> SessionEnd
+        ensures { (missing : ℕ) → coming self.now ≡ Misses missing → result ≡ Truncated missing }
+    {
+        match self.frames.look(self.phase.least()) {
+            Next::More { missing } => SessionEnd::Truncated { missing },
+            Next::Bad { .. } => SessionEnd::Truncated { missing: 0 },
+            Next::Frame { .. } => SessionEnd::Truncated { missing: 0 },
         }
     }
 
-    /// Reads the next frame, if it is whole, and answers it.
-    pub fn advance<C: Caller>(&mut self, alloc: Global, caller: &mut C) -> Result<Step, NoMemory>
-        ensures steps { Steps C.stands (C.seat caller.old) caller.old caller.new self.old self.new
-            result }
-        ensures seat { C.seat caller.new ≡ C.seat caller.old }
-        ensures lent { C.lent caller.new ≡ C.lent caller.old }
-        ensures kept { C.kept caller.new ≡ C.kept caller.old }
+    // ---- the output
+
+    /// The bytes to be written next: up to 65,536 bytes of the first reply that waits, and nothing where
+    /// none waits. Takes no memory.
+    pub fn waiting(&self) -> &[u8]
+        ensures shown { result.now ≡ piece_shown self.now.waiting }
+        ensures end { (result.now ≡ []) ↔ (self.now.waiting ≡ waiting_none) }
     {
-        self.reply.clear();
-        let body = match self.frames.look(least_len(self.is_open)) {
-            Look::Part(missing) => return Ok(Step::More(missing)),
-            Look::Bad(length) => return Ok(Step::Bad(length)),
-            Look::Body(body) => body,
-        };
-        let len = body.len();
-        if self.is_open {
-            let asked = read_ask(alloc, body)?;
-            let answered = answer_to(alloc, caller, asked, &mut self.reply);
-            self.frames.pass(len);
-            return match answered {
-                Ok(()) => Ok(Step::Out),
-                Err(e) => Err(e),
-            };
-        }
-        let is_accepted = is_hello(body);
-        let version = hello_version(body);
-        let greeted = put_hello_reply(&mut self.reply, is_accepted);
-        self.frames.pass(len);
-        self.is_open = is_accepted;
-        match greeted {
-            Err(e) => Err(e),
-            Ok(()) if is_accepted => Ok(Step::Out),
-            Ok(()) => Ok(Step::Refused(HelloFault::Version(version))),
-        }
+        self.outbox.waiting()
+    }
+
+    /// Says that the first bytes of what waits were written. Takes no memory.
+    pub fn gone(&mut self, count: usize)
+        requires { count ≤ length (piece_shown self.old.waiting) }
+        ensures { self.new ≡ written self.old count }
+    {
+        self.outbox.gone(count);
     }
 }

@@ -1,7 +1,9 @@
 -- The program's exit status.
 use Rattle.std.specs.Prelude.{ℕ}
-use Rattle.ig_session.specs.declared.end.SessionEnd.{SessionEnd}
-use Rattle.ig_session.specs.declared.end.SessionEnd.TheVariants as ends
+use Rattle.ig_caches.specs.declared.fault.StartFault.{StartFault}
+use Rattle.ig_caches.specs.declared.fault.StartFault.TheVariants as fault
+use Rattle.ig_deals.specs.declared.end.SessionEnd.{SessionEnd}
+use Rattle.ig_deals.specs.declared.end.SessionEnd.TheVariants as ends
 
 -- the status that says how a session ended
 abbrev pub status_of : SessionEnd → ℕ
@@ -13,3 +15,10 @@ status_of ends.ReadFault = 2
 status_of ends.WriteFault = 3
 status_of ends.ByteLimit = 6
 status_of ends.NoMemory = 5
+
+-- the status that says why no caches started
+abbrev pub status_of_start : StartFault → ℕ
+status_of_start fault.TooMany = 1
+status_of_start (fault.Empty at) = 1
+status_of_start (fault.Taken at) = 1
+status_of_start fault.NoMemory = 5

@@ -1,6 +1,6 @@
 //! A server of the Apache Ignite thin client protocol.
 //!
-//! `ignite_thin pipe NAME` serves one session over standard input and output. `main` makes the real
+//! `ignite_thin pipe NAME ..` serves one session over standard input and output. `main` makes the real
 //! streams, calls `run_plain`, which carries the contract, and says on standard error why it failed.
 #![tactic(auto)]
 
@@ -43,24 +43,39 @@ fn report(rt: &HostRuntime, status: u8) {
     }
 }
 
-fn main(rt: HostRuntime) -> ExitCode {
-    let words = match env::args(&rt) {
-        Ok(all) => match all.skip(1).collect::<Vec<String>>(rt.alloc()) {
-            Ok(words) => words,
-            Err(_) => return ExitCode::from(NO_MEMORY),
-        },
-        Err(e) if e.kind() == ErrorKind::OutOfMemory => return ExitCode::from(NO_MEMORY),
-        Err(_) => return ExitCode::from(USAGE),
+/// The program's words, without its name, or the status that says why there are none: words that aren't
+/// text are no command.
+fn words_of(rt: &HostRuntime) -> Result<Vec<String>, u8> {
+    let all = env::args(rt).map_err(|e| match e.kind() {
+        ErrorKind::OutOfMemory => NO_MEMORY,
+        _ => USAGE,
+    })?;
+    all.skip(1)
+        .collect::<Vec<String>>(rt.alloc())
+        .map_err(|_| NO_MEMORY)
+}
+
+/// Does what the words ask for, over standard input and output, and returns the program's status.
+fn run(rt: &HostRuntime) -> u8 {
+    let words = match words_of(rt) {
+        Ok(words) => words,
+        Err(status) => return status,
     };
-    if let Some(status) = print_asked(&rt, &words) {
-        return ExitCode::from(status);
+    if let Some(status) = print_asked(rt, &words) {
+        return status;
     }
     let mut source = PipeIn::new(rt.stdin());
     let mut sink = PipeOut::new(rt.stdout());
-    let status = run_plain(rt.alloc(), &words, &mut source, &mut sink);
+    run_plain(rt.alloc(), &words, &mut source, &mut sink)
+}
+
+fn main(rt: HostRuntime) -> ExitCode {
+    let status = run(&rt);
     report(&rt, status);
     ExitCode::from(status)
 }
 
+#[cfg(test)]
+mod exchanges;
 #[cfg(test)]
 mod tests;

@@ -1,13 +1,14 @@
 //! The commands that run to their end without waiting for other threads. Today that is `pipe`.
 
-ghost use Rattle.std.specs.Prelude.{◌≡◌, map, string_bytes};
+ghost use Rattle.std.specs.Prelude.{◌≡◌, map, string_bytes, IfOk};
 ghost use Rattle.ignite_thin.specs.Plain.{RunsPlain};
 
-use crate::statuses::{NO_MEMORY, USAGE, end_status};
+use crate::statuses::{NO_MEMORY, USAGE, end_status, start_status};
 use crate::words::pipe_words;
-use ig_base::Text;
+use ig_base::{NoMemory, Text};
+use ig_caches::Caches;
 use ig_link::{Sink, Source};
-use ig_session::{Alone, Caches, SessionCfg, serve_ends};
+use ig_session::{Alone, SessionCfg, serve_ends};
 use std::alloc::Global;
 
 /// The session of a server that is node 0 of 1, with 1,024 partitions a cache.
@@ -17,10 +18,21 @@ const ONE_NODE: SessionCfg = SessionCfg {
     parts: 1024,
 };
 
+/// Copies of the words, as names of caches.
+fn names_of(alloc: Global, words: &[String]) -> Result<Vec<Text>, NoMemory>
+    ensures { IfOk result (λ names. names.items ≡ map string_bytes words.now) }
+{
+    let mut names = Vec::with_capacity(alloc, words.len())?;
+    for word in words {
+        names.push(Text::new(String::from_str(alloc, word.as_str())?))?;
+    }
+    Ok(names)
+}
+
 /// Runs the command that the words name over a source and a sink, and returns the program's status.
 ///
-/// `pipe NAME` serves one session with the one cache NAME, and its status says how the session ended.
-/// Words that are no command leave the source and the sink as they were, with status 1.
+/// `pipe NAME ..` serves one session with the caches of these names, and its status says how the session
+/// ended. Words that are no command leave the source and the sink as they were, with status 1.
 pub fn run_plain<S: Source, K: Sink>(
     alloc: Global,
     words: &[String],
@@ -30,12 +42,17 @@ pub fn run_plain<S: Source, K: Sink>(
     ensures { RunsPlain (map string_bytes words.now) (S.source source.old) (S.source source.new)
         (K.sink sink.old) (K.sink sink.new) result }
 {
-    let Some(name) = pipe_words(words) else {
+    let Some(names) = pipe_words(words) else {
         return USAGE;
     };
-    let Ok(name) = String::from_str(alloc, name) else {
+    let Ok(names) = names_of(alloc, names) else {
         return NO_MEMORY;
     };
-    let mut caller = Alone::new(Caches::start(alloc, Text::new(name)));
-    end_status(serve_ends(alloc, &mut caller, source, sink, &ONE_NODE))
+    match Caches::start(alloc, names) {
+        Ok(caches) => {
+            let mut caller = Alone::new(caches);
+            end_status(serve_ends(alloc, &mut caller, source, sink, &ONE_NODE))
+        }
+        Err(fault) => start_status(fault),
+    }
 }

@@ -1,8 +1,9 @@
 //! The statuses that the program ends with, and what each of them says.
 
 ghost use Rattle.std.specs.Prelude.{◌≡◌, ◌≤◌, ◌↔◌, IsSome};
-ghost use Rattle.ignite_thin.specs.Statuses.{status_of};
+ghost use Rattle.ignite_thin.specs.Statuses.{status_of, status_of_start};
 
+use ig_caches::StartFault;
 use ig_session::SessionEnd;
 use std::fmt;
 
@@ -26,6 +27,17 @@ pub const NO_MEMORY: u8 = 5;
 
 /// 2^48 bytes were taken.
 pub const BYTE_LIMIT: u8 = 6;
+
+/// The status that says why no caches started with the names in the words.
+pub fn start_status(fault: StartFault) -> u8
+    ensures { result ≡ status_of_start fault }
+{
+    match fault {
+        StartFault::TooMany => USAGE,
+        StartFault::Empty { .. } | StartFault::Taken { .. } => USAGE,
+        StartFault::NoMemory => NO_MEMORY,
+    }
+}
 
 /// The status that says how a session ended.
 pub fn end_status(end: SessionEnd) -> u8
@@ -77,10 +89,11 @@ impl fmt::Display for Help {
 }
 
 const COMMANDS: &str = "\
-usage: ignite_thin pipe NAME
+usage: ignite_thin pipe NAME ..
        ignite_thin --help | --version
 
-pipe    serves one session over standard input and output, with the one cache NAME,
-        which isn't empty, doesn't begin with a hyphen and is ASCII
+pipe    serves one session over standard input and output, with 1 to 64 caches. A name isn't
+        empty and doesn't begin with a hyphen, and no two have the same identifier: the Java
+        hash of the name
 
 The exit status:";

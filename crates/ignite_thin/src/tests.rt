@@ -1,5 +1,6 @@
 //! Sessions over links in memory, from the words to the status.
 
+use crate::exchanges::{CUT, Exchange, FIRST, FIVE, SESSIONS, TELLING};
 use crate::plain::run_plain;
 use ig_base::{NoMemory, Octets, put_i16, put_i32, put_i64};
 use ig_link::{MemLink, ReadStep, WriteStep};
@@ -215,15 +216,50 @@ fn a_refused_request_has_its_reason_and_the_session_goes_on(rt: HostRuntime) -> 
 }
 
 /// Openings of a session: the bytes in, the bytes out, and the status.
-static OPENINGS: [(&str, &str, u8); 4] = [
+static OPENINGS: [(&str, &str, u8); 12] = [
     ("08000000 01 0100 0000 0000 02", "01000000 01", 0),
     (
+        "08000000 01 0100 0400 0000 02",
+        "12000000 01 0A 0000000000000000 0100000000000000",
+        0,
+    ),
+    // Another version, and what follows isn't looked at.
+    (
         "08000000 01 0100 0700 0000 02",
-        "1F000000 00 0100 0000 0000 09 13000000 756E737570706F727465642076657273696F6E",
+        "1F000000 00 0100 0400 0000 09 13000000 756E737570706F727465642076657273696F6E",
+        4,
+    ),
+    (
+        "08000000 01 0100 0700 0000 02 FFFFFFFF",
+        "1F000000 00 0100 0400 0000 09 13000000 756E737570706F727465642076657273696F6E",
+        4,
+    ),
+    // No hello, and another client code.
+    (
+        "08000000 02 0100 0000 0000 02",
+        "1B000000 00 0100 0400 0000 09 0F000000 6E6F7420612068616E647368616B65",
+        4,
+    ),
+    (
+        "08000000 01 0100 0000 0000 03",
+        "23000000 00 0100 0400 0000 09 17000000 756E737570706F7274656420636C69656E7420636F6465",
+        4,
+    ),
+    // Logins.
+    (
+        "14000000 01 0100 0100 0000 02 09 01000000 75 09 01000000 70",
+        "01000000 01",
+        0,
+    ),
+    ("0A000000 01 0100 0100 0000 02 65 65", "01000000 01", 0),
+    (
+        "09000000 01 0100 0000 0000 02 65",
+        "1F000000 00 0100 0400 0000 09 13000000 6D616C666F726D65642068616E647368616B65",
         4,
     ),
     ("", "", 4),
     ("08000000 01 0100", "", 4),
+    ("07000000 01 0100", "", 4),
 ];
 
 /// The first opening that is answered otherwise.
@@ -243,8 +279,36 @@ fn wrong_opening(alloc: Global) -> Result<Option<&'static str>, Fail> {
 }
 
 #[test]
-fn only_the_spoken_version_is_accepted(rt: HostRuntime) -> Result<(), Fail> {
+fn hellos_are_accepted_or_refused_for_their_first_fault(rt: HostRuntime) -> Result<(), Fail> {
     assert_eq!(rt; wrong_opening(rt.alloc())?, None);
+    Ok(())
+}
+
+/// What a client sends in a session and what it gets, each laid end to end.
+fn streams(alloc: Global, exchanges: &[Exchange]) -> Result<(Octets, Octets), NoMemory> {
+    let mut input = Octets::empty(alloc);
+    let mut output = Octets::empty(alloc);
+    for (request, reply) in exchanges {
+        input.append(bytes(alloc, request)?.as_slice())?;
+        output.append(bytes(alloc, reply)?.as_slice())?;
+    }
+    Ok((input, output))
+}
+
+/// The first session that is answered otherwise.
+fn wrong_session(alloc: Global) -> Result<Option<usize>, Fail> {
+    for (at, exchanges) in SESSIONS.iter().enumerate() {
+        let (input, output) = streams(alloc, exchanges)?;
+        if !answers(alloc, input.as_slice(), output.as_slice(), 0)? {
+            return Ok(Some(at));
+        }
+    }
+    Ok(None)
+}
+
+#[test]
+fn every_request_is_answered(rt: HostRuntime) -> Result<(), Fail> {
+    assert_eq!(rt; wrong_session(rt.alloc())?, None);
     Ok(())
 }
 
@@ -421,14 +485,20 @@ fn malformed_fields_are_refused_at_their_offset(rt: HostRuntime) -> Result<(), F
     check(&rt, &client, &server, 0)
 }
 
-/// A put of a text of 8,388,583 letters has a body of 8,388,608 bytes.
-#[test]
-fn the_longest_request_is_answered(rt: HostRuntime) -> Result<(), Fail> {
-    let mut text = Octets::empty(rt.alloc());
+/// A text of 8,388,583 letters.
+fn longest_text(alloc: Global) -> Result<Octets, NoMemory> {
+    let mut text = Octets::empty(alloc);
     text.push(9)?;
     put_i32(&mut text, 8_388_583)?;
-    let letters = vec![in rt.alloc(); b'a'; 8_388_583]?;
+    let letters = vec![in alloc; b'a'; 8_388_583]?;
     text.append(letters.as_slice())?;
+    Ok(text)
+}
+
+/// A put of it has a body of 8,388,608 bytes.
+#[test]
+fn the_longest_request_is_answered(rt: HostRuntime) -> Result<(), Fail> {
+    let text = longest_text(rt.alloc())?;
     let mut client = Stream::client(rt.alloc())?;
     let mut server = Stream::server(rt.alloc())?;
     client.put(1, &int(1), text.as_slice())?;
@@ -438,76 +508,202 @@ fn the_longest_request_is_answered(rt: HostRuntime) -> Result<(), Fail> {
     check(&rt, &client, &server, 0)
 }
 
-/// A hello, a put and a get, and the replies to them.
-fn short_session(alloc: Global) -> Result<(Octets, Octets), NoMemory> {
-    let mut client = Stream::client(alloc)?;
-    let mut server = Stream::server(alloc)?;
-    client.put(1, &int(1), &int(2))?;
+/// The reply to the get of such a text has a frame of 8,388,604 bytes. It is written in 128 pieces, of
+/// which the last has 65,532 bytes: it is missing where the write after 129 others fails.
+#[test]
+fn the_longest_reply_is_written_in_pieces(rt: HostRuntime) -> Result<(), Fail> {
+    let text = longest_text(rt.alloc())?;
+    let mut client = Stream::client(rt.alloc())?;
+    let mut server = Stream::server(rt.alloc())?;
+    client.put(1, &int(1), text.as_slice())?;
     server.done(1)?;
     client.get(2, &int(1))?;
-    server.found(2, &int(2))?;
-    Ok((client.bytes, server.bytes))
+    server.found(2, text.as_slice())?;
+    let mut writes = Vec::new(rt.alloc());
+    for _ in 0..129 {
+        writes.push(WriteStep::AtMost(1 << 20))?;
+    }
+    writes.push(WriteStep::Fault)?;
+    let input = client.bytes.as_slice();
+    let run = run_over(rt.alloc(), &["pipe", "main"], input, false, writes)?;
+    let whole = server.bytes.len().saturating_sub(65_532);
+    assert_eq!(rt; run.status, 3);
+    assert!(rt; run.sink.written() == server.bytes.as_slice().get(..whole));
+    Ok(())
 }
 
-/// How many bytes of the replies are due once this many bytes of the short session came.
-fn due(taken: usize) -> usize {
-    match taken {
-        0..12 => 0,
-        12..41 => 5,
-        41..65 => 21,
-        _ => 42,
+/// A get all of two such texts.
+#[test]
+fn a_reply_that_is_too_long_says_so(rt: HostRuntime) -> Result<(), Fail> {
+    let text = longest_text(rt.alloc())?;
+    let mut client = Stream::client(rt.alloc())?;
+    let mut server = Stream::server(rt.alloc())?;
+    client.put(1, &int(1), text.as_slice())?;
+    server.done(1)?;
+    client.put(2, &int(2), text.as_slice())?;
+    server.done(2)?;
+    client.hex("1F000000 EB03 0300000000000000 B9053300 00 02000000 0301000000 0302000000")?;
+    server.fault(3, 1, "reply too long")?;
+    check(&rt, &client, &server, 0)
+}
+
+/// A scan of `main` by this page.
+fn scan(client: &mut Stream, id: i64, page: i32) -> Result<(), NoMemory> {
+    let mut fields = bytes(client.alloc, "B9053300 00 65")?;
+    put_i32(&mut fields, page)?;
+    fields.append(&[0xFF, 0xFF, 0xFF, 0xFF, 0])?;
+    client.request(2000, id, fields.as_slice())
+}
+
+/// A first page with the rows of int 1 to this one, each to itself.
+fn first_page(server: &mut Stream, id: i64, rows: i32, more: u8) -> Result<(), NoMemory> {
+    let mut page = Octets::empty(server.alloc);
+    put_i64(&mut page, id)?;
+    put_i32(&mut page, rows)?;
+    for n in 1..=rows {
+        page.append(&int(n))?;
+        page.append(&int(n))?;
     }
+    page.push(more)?;
+    server.found(id, page.as_slice())
+}
+
+/// With 128 cursors open a scan that fits its page is answered, and another one isn't. The cursors have
+/// the numbers of their requests.
+#[test]
+fn a_cursor_too_many_is_refused(rt: HostRuntime) -> Result<(), Fail> {
+    let (input, output) = streams(rt.alloc(), &[FIRST, FIVE])?;
+    let mut client = Stream {
+        alloc: rt.alloc(),
+        bytes: input,
+    };
+    let mut server = Stream {
+        alloc: rt.alloc(),
+        bytes: output,
+    };
+    for id in 1..=128 {
+        scan(&mut client, id, 4)?;
+        first_page(&mut server, id, 4, 1)?;
+    }
+    scan(&mut client, 200, 4)?;
+    server.fault(200, 1010, "too many cursors")?;
+    scan(&mut client, 129, 5)?;
+    first_page(&mut server, 129, 5, 0)?;
+    check(&rt, &client, &server, 0)
+}
+
+/// The partition map of `main` at 1.4.0: one group without pairs, and one node with all partitions.
+#[test]
+fn a_partition_map_lists_each_partition(rt: HostRuntime) -> Result<(), Fail> {
+    let (input, output) = streams(rt.alloc(), &[TELLING])?;
+    let mut client = Stream {
+        alloc: rt.alloc(),
+        bytes: input,
+    };
+    let mut server = Stream {
+        alloc: rt.alloc(),
+        bytes: output,
+    };
+    client.hex("12000000 4D04 0400000000000000 01000000 B9053300")?;
+    let mut body = bytes(
+        rt.alloc(),
+        "0400000000000000 0200 0100000000000000 00000000 0100000000000000 00000000 01000000 01 \
+         01000000 B9053300 00000000 01000000 0A 0000000000000000 0100000000000000 00040000",
+    )?;
+    for partition in 0..1024 {
+        put_i32(&mut body, partition)?;
+    }
+    server.frame(&body)?;
+    check(&rt, &client, &server, 0)
+}
+
+/// How many bytes of the replies are due once this many bytes of that session came, and whether these
+/// are whole frames of it, from the hello on.
+fn due(alloc: Global, taken: usize) -> Result<(usize, bool), NoMemory> {
+    let mut came = 0;
+    let mut due = 0;
+    for (request, reply) in &CUT {
+        let whole = came + bytes(alloc, request)?.len();
+        if taken < whole {
+            return Ok((due, taken == came && came > 0));
+        }
+        came = whole;
+        due += bytes(alloc, reply)?.len();
+    }
+    Ok((due, taken == came))
+}
+
+/// Whether a run over the first bytes of the session ended with this status after these replies.
+fn ends_so(
+    alloc: Global,
+    taken: &[u8],
+    fails: bool,
+    shown: &[u8],
+    status: u8,
+) -> Result<bool, Fail> {
+    let run = run_over(alloc, &["pipe", "main"], taken, fails, Vec::new(alloc))?;
+    Ok(run.status == status && run.sink.written() == Some(shown))
+}
+
+/// The first cut of the input after which another status or other replies come, whether the input ends
+/// there or fails.
+fn wrong_cut(alloc: Global) -> Result<Option<usize>, Fail> {
+    let (input, output) = streams(alloc, &CUT)?;
+    for cut in 0..=input.len() {
+        let taken = input.as_slice().get(..cut).unwrap_or(&[]);
+        let (due, is_whole) = due(alloc, cut)?;
+        let shown = output.as_slice().get(..due).unwrap_or(&[]);
+        if !ends_so(alloc, taken, false, shown, if is_whole { 0 } else { 4 })? {
+            return Ok(Some(cut));
+        }
+        if !ends_so(alloc, taken, true, shown, 2)? {
+            return Ok(Some(cut));
+        }
+    }
+    Ok(None)
 }
 
 #[test]
 fn an_input_cut_after_any_byte_has_all_due_replies(rt: HostRuntime) -> Result<(), Fail> {
-    let (input, output) = short_session(rt.alloc())?;
-    for cut in 0..66usize {
-        let taken = input.as_slice().get(..cut).unwrap_or(&[]);
-        let shown = output.as_slice().get(..due(cut));
-        let words = &["pipe", "main"];
-        let ended = run_over(rt.alloc(), words, taken, false, Vec::new(rt.alloc()))?;
-        let well = matches!(cut, 12 | 41 | 65);
-        assert_eq!(rt; ended.status, if well { 0 } else { 4 });
-        assert!(rt; ended.sink.written() == shown);
-        let failed = run_over(rt.alloc(), words, taken, true, Vec::new(rt.alloc()))?;
-        assert_eq!(rt; failed.status, 2);
-        assert!(rt; failed.sink.written() == shown);
-    }
+    assert_eq!(rt; wrong_cut(rt.alloc())?, None);
     Ok(())
 }
 
-/// The sink takes one byte at a time and fails after each number of bytes in turn.
-#[test]
-fn an_output_that_fails_has_the_first_bytes_of_the_replies(rt: HostRuntime) -> Result<(), Fail> {
-    let (input, output) = short_session(rt.alloc())?;
-    for sent in 0..43usize {
-        let mut writes = Vec::new(rt.alloc());
+/// The first number of bytes after which a sink that takes one byte at a time and then fails has other
+/// bytes than the first of the replies.
+fn wrong_write(alloc: Global) -> Result<Option<usize>, Fail> {
+    let (input, output) = streams(alloc, &CUT)?;
+    for sent in 0..=output.len() {
+        let mut writes = Vec::new(alloc);
         for _ in 0..sent {
             writes.push(WriteStep::AtMost(1))?;
         }
         writes.push(WriteStep::Fault)?;
-        let run = run_over(
-            rt.alloc(),
-            &["pipe", "main"],
-            input.as_slice(),
-            false,
-            writes,
-        )?;
-        assert_eq!(rt; run.status, if sent < 42 { 3 } else { 0 });
-        assert!(rt; run.sink.written() == output.as_slice().get(..sent));
+        let run = run_over(alloc, &["pipe", "main"], input.as_slice(), false, writes)?;
+        let status = if sent < output.len() { 3 } else { 0 };
+        if run.status != status || run.sink.written() != output.as_slice().get(..sent) {
+            return Ok(Some(sent));
+        }
     }
+    Ok(None)
+}
+
+#[test]
+fn an_output_that_fails_has_the_first_bytes_of_the_replies(rt: HostRuntime) -> Result<(), Fail> {
+    assert_eq!(rt; wrong_write(rt.alloc())?, None);
     Ok(())
 }
 
 /// Words that are no command.
-static OTHER_WORDS: [&[&str]; 9] = [
+static OTHER_WORDS: [&[&str]; 10] = [
     &[],
     &["pipe"],
     &["pipe", "main", "main"],
-    &["pipe", "-x"],
+    // Two names with one identifier.
+    &["pipe", "Aa", "BB"],
+    &["pipe", "main", "-x"],
     &["pipe", ""],
-    &["pipe", "n\u{E9}"],
+    &["pipe", "main", ""],
     &["mill", "01", "7"],
     &["serve", "--nodes", "0", "main"],
     &["Pipe", "main"],
@@ -515,7 +711,7 @@ static OTHER_WORDS: [&[&str]; 9] = [
 
 #[test]
 fn other_words_read_and_write_nothing(rt: HostRuntime) -> Result<(), Fail> {
-    let (input, _) = short_session(rt.alloc())?;
+    let (input, _) = streams(rt.alloc(), &CUT)?;
     for words in &OTHER_WORDS {
         let run = run_over(
             rt.alloc(),

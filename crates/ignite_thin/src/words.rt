@@ -1,36 +1,56 @@
 //! What the program's words ask for.
 
-ghost use Rattle.std.specs.Prelude.{◌≡◌, nat_lt, map, string_bytes};
-ghost use Rattle.std.specs.List.{list_all};
+ghost use Rattle.std.specs.Prelude.{◌≡◌, map, string_bytes};
 ghost use Rattle.std.specs.Option.{option_map};
-ghost use Rattle.ignite_thin.specs.Words.{is_name, pipe_name};
+ghost use Rattle.std.specs.List.{list_all};
+ghost use Rattle.ignite_thin.specs.Words.{is_name, are_names, pipe_names};
 
-/// Whether all bytes are ASCII.
-fn is_ascii(bytes: &[u8]) -> bool
-    ensures { result ≡ list_all (λ b. nat_lt b 128) bytes.now }
-{
-    bytes.iter().all(|b| *b < 128)
-}
+/// The most caches that `pipe` is given.
+const NAMES: usize = 64;
 
-/// Whether a word may name a cache: it isn't empty, doesn't begin with a hyphen, and is ASCII.
+/// Whether a word may name a cache: it isn't empty and doesn't begin with a hyphen.
 fn is_cache_name(word: &str) -> bool
     ensures { result ≡ is_name word.now }
 {
-    let bytes = word.as_bytes();
-    if bytes.is_empty() || bytes[0] == b'-' {
-        return false;
+    match word.as_bytes() {
+        [] => false,
+        [first, ..] => *first != b'-',
     }
-    is_ascii(bytes)
 }
 
-/// The name of the cache where the words are `pipe NAME`, and `None` where they aren't.
-pub fn pipe_words(words: &[String]) -> Option<&str>
-    ensures { option_map (λ name. name.now) result ≡ pipe_name (map string_bytes words.now) }
+/// Whether each word may name a cache.
+fn each_is_name(words: &[String]) -> bool
+    ensures { result ≡ list_all (λ word. is_name (string_bytes word)) words.now }
 {
-    match words {
-        [command, name] if command.as_str() == "pipe" && is_cache_name(name.as_str()) => {
-            Some(name.as_str())
-        }
-        _ => None,
+    words.iter().all(|word| is_cache_name(word.as_str()))
+}
+
+/// Whether the words may name the caches of `pipe`: there are 1 to 64 of them, and each may name one.
+fn are_cache_names(words: &[String]) -> bool
+    ensures { result ≡ are_names (map string_bytes words.now) }
+{
+    if words.is_empty() {
+        return false;
     }
+    if words.len() > NAMES {
+        return false;
+    }
+    each_is_name(words)
+}
+
+/// The names of the caches where the words are `pipe NAME ..`, and `None` where they aren't.
+pub fn pipe_words(words: &[String]) -> Option<&[String]>
+    ensures { option_map (λ names. map string_bytes names.now) result
+        ≡ pipe_names (map string_bytes words.now) }
+{
+    let [command, names @ ..] = words else {
+        return None;
+    };
+    if command.as_str() != "pipe" {
+        return None;
+    }
+    if !are_cache_names(names) {
+        return None;
+    }
+    Some(names)
 }

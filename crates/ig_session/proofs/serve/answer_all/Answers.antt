@@ -1,97 +1,84 @@
-use Rattle.std.proofs.Common.{◌∙◌, ℕ, ℤ, Err, refl, sym, ap, subst, rules, FitsSigned, ◌-◌}
-use Rattle.std.proofs.lemmas.Int.{to_z-of_z}
-use Rattle.std.specs.Int.{w32}
-use Rattle.ig_link.specs.States.{SinkAdvances}
-use Rattle.ig_link.specs.WritesAs.{SentPart}
-use Rattle.ig_session.specs.Sessions.{Steps}
+use Rattle.std.proofs.Common.{◌≡◌, ◌∙◌, ℕ, Err, refl, sym, ap, subst}
+use Rattle.std.proofs.lemmas.Result.{err_from_is_err_and}
+use Rattle.ig_deals.specs.declared.end.SessionEnd.{SessionEnd}
+use Rattle.ig_deals.specs.Deals.{entry_of}
+use Rattle.ig_session.specs.declared.step.Step.{Step}
+use Rattle.ig_session.specs.Histories.{StandsOn}
+use Rattle.ig_session.specs.States.{State}
+use Rattle.ig_session.specs.Steps.{next_step}
 use Rattle.ig_session.specs.Serving.{AnswersAll}
-use Rattle.ig_session.specs.declared.session.Step.TheVariants as steps
-use Rattle.ig_session.specs.declared.end.SessionEnd.TheVariants as ends
-use Rattle.ig_session.proofs.AnswerAllLemmas.{since_start, since_out, since_bad, since_refused, since_fault, since_refused_fault, since_none, steps_shorter, at_step}
+use Rattle.ig_session.proofs.ProgressLemmas.{out_step, out_less, run_less}
+use Rattle.ig_session.proofs.SinceLemmas.{since_start}
+use Rattle.ig_session.proofs.AnswerAllLemmas.{since_lack, since_stop, since_more, since_written, since_unwritten, since_answered, since_lost}
 use Rattle.ig_session.proofs.serve.answer_all.Goals as goal
 
-pub frames-init : goal.frames-init
-frames-init g c = record {
+pub steps-init : goal.steps-init
+steps-init g c = record {
   since = since_start g.C.Caller.stands (g.C.Caller.seat c.args.caller.now) c.args.caller.now c.args.session.now (g.K.Sink.sink c.args.sink.now);
   seat = refl;
   lent = refl;
   kept = refl;
   beside = refl;
+  none = c.requires.none;
 }
 
 pub returns-in-Err-clause-answers : goal.returns-in-Err-clause-answers
-returns-in-Err-clause-answers g c =
-    let stands = g.C.Caller.stands in
-    let seat : ℕ = g.C.Caller.seat c.args.caller.now in
-    let since = c.frames.invariant.since in
-    let st = subst (λ (s : ℕ). Steps stands s c.frames.caller c.advance.new.caller c.frames.session c.advance.new.self (Err c.in-Err.field-0)) c.frames.invariant.seat c.in-Err.ensures.steps in
-    since_none stands seat c.args.caller.now c.frames.caller c.advance.new.caller c.args.session.now c.frames.session c.advance.new.self c.advance.new.self (g.K.Sink.sink c.args.sink.now) (g.K.Sink.sink c.frames.sink) c.args.taken c.in-Err.field-0 since st
+returns-in-Err-clause-answers g c = since_lack g.C.Caller.stands (g.C.Caller.seat c.args.caller.now) c.args.caller.now c.steps.caller c.args.session.now c.steps.session (g.K.Sink.sink c.args.sink.now) (g.K.Sink.sink c.steps.sink) c.steps.invariant.since
+    c.next_request.new.self c.in-Err.ensures.err
 
-pub returns-in-Ok-Bad-clause-answers : goal.returns-in-Ok-Bad-clause-answers
-returns-in-Ok-Bad-clause-answers g c =
-    let stands = g.C.Caller.stands in
-    let seat : ℕ = g.C.Caller.seat c.args.caller.now in
-    let since = c.frames.invariant.since in
-    let st = at_step stands (g.C.Caller.seat c.frames.caller) seat c.frames.caller c.advance.new.caller c.frames.session c.advance.new.self c.in-Ok-Bad.field-0 (steps.Bad c.in-Ok-Bad.length)
-    c.frames.invariant.seat c.in-Ok-Bad.field-0-is c.in-Ok-Bad.ensures.steps in
-    let fits : FitsSigned w32 c.in-Ok-Bad.length = search rules in
-    subst (λ (len : ℤ). AnswersAll stands seat c.args.caller.now c.advance.new.caller c.args.session.now c.advance.new.self (g.K.Sink.sink c.args.sink.now) (g.K.Sink.sink c.frames.sink) c.args.taken
-    (Err (ends.BadFrame c.saturating_sub-place.result len)))
-    (sym (to_z-of_z w32 c.in-Ok-Bad.length fits))
-    (since_bad stands seat c.args.caller.now c.frames.caller c.advance.new.caller c.args.session.now c.frames.session c.advance.new.self (g.K.Sink.sink c.args.sink.now) (g.K.Sink.sink c.frames.sink) c.args.taken c.saturating_sub-place.result c.in-Ok-Bad.length since st
-    (c.saturating_sub-place.ensures ∙ ap (λ n. c.args.taken - n) c.len.ensures))
+pub returns-in-Ok-Stop-clause-answers : goal.returns-in-Ok-Stop-clause-answers
+returns-in-Ok-Stop-clause-answers g c = since_stop g.C.Caller.stands (g.C.Caller.seat c.args.caller.now) c.args.caller.now c.steps.caller c.args.session.now c.steps.session (g.K.Sink.sink c.args.sink.now) (g.K.Sink.sink c.steps.sink) c.steps.invariant.since
+    c.next_request.new.self c.in-Ok-Stop.end c.next_request.ensures.sound (subst (λ (x : Step). (x, c.next_request.new.self) ≡ next_step c.steps.session) c.in-Ok-Stop.field-0-is c.in-Ok-Stop.ensures.ok)
 
-pub frames-smaller : goal.frames-smaller
-frames-smaller g c =
-    let stands = g.C.Caller.stands in
-    let seat : ℕ = g.C.Caller.seat c.args.caller.now in
-    let since = c.frames.invariant.since in
-    let st = at_step stands (g.C.Caller.seat c.frames.caller) seat c.frames.caller c.advance.new.caller c.frames.session c.advance.new.self c.in-Ok-Out.field-0 steps.Out
-    c.frames.invariant.seat c.in-Ok-Out.field-0-is c.in-Ok-Out.ensures.steps in
-    steps_shorter stands seat c.frames.caller c.advance.new.caller c.frames.session c.advance.new.self st
+pub returns-in-Ok-More-clause-answers : goal.returns-in-Ok-More-clause-answers
+returns-in-Ok-More-clause-answers g c = since_more g.C.Caller.stands (g.C.Caller.seat c.args.caller.now) c.args.caller.now c.steps.caller c.args.session.now c.steps.session (g.K.Sink.sink c.args.sink.now) (g.K.Sink.sink c.steps.sink) c.steps.invariant.since
+    tt c.next_request.new.self c.in-Ok-More.field-0-0 c.next_request.ensures.sound c.steps.invariant.none (subst (λ (x : Step). (x, c.next_request.new.self) ≡ next_step c.steps.session) c.in-Ok-More.field-0-is c.in-Ok-More.ensures.ok)
 
-pub frames-preserved : goal.frames-preserved
-frames-preserved g c =
-    let stands = g.C.Caller.stands in
-    let seat : ℕ = g.C.Caller.seat c.args.caller.now in
-    let since = c.frames.invariant.since in
-    let st = at_step stands (g.C.Caller.seat c.frames.caller) seat c.frames.caller c.advance.new.caller c.frames.session c.advance.new.self c.in-Ok-Out.field-0 steps.Out
-    c.frames.invariant.seat c.in-Ok-Out.field-0-is c.in-Ok-Out.ensures.steps in
+pub steps-smaller-in-Continue-1 : goal.steps-smaller-in-Continue-1
+steps-smaller-in-Continue-1 g c = out_less c.steps.session c.next_request.new.self c.send_waiting.new.session (subst (λ (x : Step). (x, c.next_request.new.self) ≡ next_step c.steps.session) c.in-Ok-Out.field-0-is c.in-Ok-Out.ensures.ok) c.in_ok-send_waiting-in-Ok-Out.ensures.sends.2
+
+pub steps-preserved-in-Continue-1 : goal.steps-preserved-in-Continue-1
+steps-preserved-in-Continue-1 g c = record {
+  since = since_written g.C.Caller.stands (g.C.Caller.seat c.args.caller.now) c.args.caller.now c.steps.caller c.args.session.now c.steps.session (g.K.Sink.sink c.args.sink.now) (g.K.Sink.sink c.steps.sink) c.steps.invariant.since
+      c.in_ok-send_waiting-in-Ok-Out.field-0 c.next_request.new.self c.send_waiting.new.session (g.K.Sink.sink c.send_waiting.new.sink) c.next_request.ensures.sound (subst (λ (x : Step). (x, c.next_request.new.self) ≡ next_step c.steps.session) c.in-Ok-Out.field-0-is c.in-Ok-Out.ensures.ok) c.in_ok-send_waiting-in-Ok-Out.ensures.sends;
+  seat = c.steps.invariant.seat;
+  lent = c.steps.invariant.lent;
+  kept = c.steps.invariant.kept;
+  beside = c.send_waiting.ensures.beside ∙ c.steps.invariant.beside;
+  none = ap (λ (s : State). s.out) c.in_ok-send_waiting-in-Ok-Out.ensures.sends.2
+      ∙ (out_step c.steps.session c.next_request.new.self (subst (λ (x : Step). (x, c.next_request.new.self) ≡ next_step c.steps.session) c.in-Ok-Out.field-0-is c.in-Ok-Out.ensures.ok)).out ∙ c.steps.invariant.none;
+}
+
+pub returns-in_err-send_waiting-in-Ok-Out-clause-answers : goal.returns-in_err-send_waiting-in-Ok-Out-clause-answers
+returns-in_err-send_waiting-in-Ok-Out-clause-answers g c =
+    let p = err_from_is_err_and c.from_residual.result c.from_residual.ensures.1 in
+    rw (p.1, p.2) (since_unwritten g.C.Caller.stands (g.C.Caller.seat c.args.caller.now) c.args.caller.now c.steps.caller c.args.session.now c.steps.session (g.K.Sink.sink c.args.sink.now) (g.K.Sink.sink c.steps.sink) c.steps.invariant.since
+    c.next_request.new.self c.send_waiting.new.session (g.K.Sink.sink c.send_waiting.new.sink) c.in_err-send_waiting-in-Ok-Out.field-0.0 c.next_request.ensures.sound (subst (λ (x : Step). (x, c.next_request.new.self) ≡ next_step c.steps.session) c.in-Ok-Out.field-0-is c.in-Ok-Out.ensures.ok) c.in_err-send_waiting-in-Ok-Out.ensures.sends)
+
+pub steps-smaller : goal.steps-smaller
+steps-smaller g c =
+    let ran = c.in_ok-run_call-in-Ok-Run.ensures.runs in
+    (run_less c.steps.session c.next_request.new.self c.run_call.new.session c.in-Ok-Run.call ran.0 c.steps.invariant.none (subst (λ (x : Step). (x, c.next_request.new.self) ≡ next_step c.steps.session) c.in-Ok-Run.field-0-is c.in-Ok-Run.ensures.ok) ran.2).0
+
+pub steps-preserved : goal.steps-preserved
+steps-preserved g c =
+    let ran = c.in_ok-run_call-in-Ok-Run.ensures.runs in
     record {
-      since = since_out stands seat c.args.caller.now c.frames.caller c.advance.new.caller c.args.session.now c.frames.session c.advance.new.self c.advance.new.self (g.K.Sink.sink c.args.sink.now) (g.K.Sink.sink c.frames.sink) (g.K.Sink.sink c.send_all.new.sink) since st
-          (subst (SinkAdvances (g.K.Sink.sink c.frames.sink) (g.K.Sink.sink c.send_all.new.sink)) c.as_slice.ensures c.in-Ok.ensures.ok) c.in-Ok.ensures.no_fault refl refl;
-      seat = c.advance.ensures.seat ∙ c.frames.invariant.seat;
-      lent = c.advance.ensures.lent ∙ c.frames.invariant.lent;
-      kept = c.advance.ensures.kept ∙ c.frames.invariant.kept;
-      beside = c.in-Ok.ensures.beside ∙ c.frames.invariant.beside;
+      since = since_answered g.C.Caller.stands (g.C.Caller.seat c.args.caller.now) c.args.caller.now c.steps.caller c.args.session.now c.steps.session (g.K.Sink.sink c.args.sink.now) (g.K.Sink.sink c.steps.sink) c.steps.invariant.since
+          c.run_call.new.caller c.next_request.new.self c.run_call.new.session c.in-Ok-Run.call ran.0 c.next_request.ensures.sound c.steps.invariant.none (subst (λ (x : Step). (x, c.next_request.new.self) ≡ next_step c.steps.session) c.in-Ok-Run.field-0-is c.in-Ok-Run.ensures.ok)
+          (subst (λ (n : ℕ). StandsOn g.C.Caller.stands c.steps.caller c.run_call.new.caller (entry_of n c.in-Ok-Run.call ran.0)) c.steps.invariant.seat ran.1) ran.2;
+      seat = c.run_call.ensures.seat ∙ c.steps.invariant.seat;
+      lent = c.run_call.ensures.lent ∙ c.steps.invariant.lent;
+      kept = c.run_call.ensures.kept ∙ c.steps.invariant.kept;
+      beside = c.steps.invariant.beside;
+      none = (run_less c.steps.session c.next_request.new.self c.run_call.new.session c.in-Ok-Run.call ran.0 c.steps.invariant.none (subst (λ (x : Step). (x, c.next_request.new.self) ≡ next_step c.steps.session) c.in-Ok-Run.field-0-is c.in-Ok-Run.ensures.ok) ran.2).1;
     }
 
-pub returns-in-Err-send_all-clause-answers : goal.returns-in-Err-send_all-clause-answers
-returns-in-Err-send_all-clause-answers g c =
-    let stands = g.C.Caller.stands in
-    let seat : ℕ = g.C.Caller.seat c.args.caller.now in
-    let since = c.frames.invariant.since in
-    let st = at_step stands (g.C.Caller.seat c.frames.caller) seat c.frames.caller c.advance.new.caller c.frames.session c.advance.new.self c.in-Ok-Out.field-0 steps.Out
-    c.frames.invariant.seat c.in-Ok-Out.field-0-is c.in-Ok-Out.ensures.steps in
-    since_fault stands seat c.args.caller.now c.frames.caller c.advance.new.caller c.args.session.now c.frames.session c.advance.new.self c.advance.new.self (g.K.Sink.sink c.args.sink.now) (g.K.Sink.sink c.frames.sink) (g.K.Sink.sink c.send_all.new.sink) c.args.taken c.in-Err-send_all.field-0.sent since st
-    (subst (SentPart c.in-Err-send_all.field-0.sent (g.K.Sink.sink c.frames.sink) (g.K.Sink.sink c.send_all.new.sink)) c.as_slice.ensures c.in-Err-send_all.ensures.err)
-
-pub returns-in-Ok-send_all-clause-answers : goal.returns-in-Ok-send_all-clause-answers
-returns-in-Ok-send_all-clause-answers g c =
-    let stands = g.C.Caller.stands in
-    let seat : ℕ = g.C.Caller.seat c.args.caller.now in
-    let since = c.frames.invariant.since in
-    let st = at_step stands (g.C.Caller.seat c.frames.caller) seat c.frames.caller c.advance.new.caller c.frames.session c.advance.new.self c.in-Ok-Refused.field-0 (steps.Refused c.in-Ok-Refused.fault)
-    c.frames.invariant.seat c.in-Ok-Refused.field-0-is c.in-Ok-Refused.ensures.steps in
-    since_refused stands seat c.args.caller.now c.frames.caller c.advance.new.caller c.args.session.now c.frames.session c.advance.new.self c.advance.new.self (g.K.Sink.sink c.args.sink.now) (g.K.Sink.sink c.frames.sink) (g.K.Sink.sink c.send_all-in-Ok-Refused.new.sink) c.args.taken c.in-Ok-Refused.fault since st
-    (subst (SinkAdvances (g.K.Sink.sink c.frames.sink) (g.K.Sink.sink c.send_all-in-Ok-Refused.new.sink)) c.as_slice-in-Ok-Refused.ensures c.in-Ok-send_all.ensures.ok) c.in-Ok-send_all.ensures.no_fault
-
-pub returns-in-Err-send_all-2-clause-answers : goal.returns-in-Err-send_all-2-clause-answers
-returns-in-Err-send_all-2-clause-answers g c =
-    let stands = g.C.Caller.stands in
-    let seat : ℕ = g.C.Caller.seat c.args.caller.now in
-    let since = c.frames.invariant.since in
-    let st = at_step stands (g.C.Caller.seat c.frames.caller) seat c.frames.caller c.advance.new.caller c.frames.session c.advance.new.self c.in-Ok-Refused.field-0 (steps.Refused c.in-Ok-Refused.fault)
-    c.frames.invariant.seat c.in-Ok-Refused.field-0-is c.in-Ok-Refused.ensures.steps in
-    since_refused_fault stands seat c.args.caller.now c.frames.caller c.advance.new.caller c.args.session.now c.frames.session c.advance.new.self c.advance.new.self (g.K.Sink.sink c.args.sink.now) (g.K.Sink.sink c.frames.sink) (g.K.Sink.sink c.send_all-in-Ok-Refused.new.sink) c.args.taken c.in-Err-send_all-2.field-0.sent c.in-Ok-Refused.fault since st
-    (subst (SentPart c.in-Err-send_all-2.field-0.sent (g.K.Sink.sink c.frames.sink) (g.K.Sink.sink c.send_all-in-Ok-Refused.new.sink)) c.as_slice-in-Ok-Refused.ensures c.in-Err-send_all-2.ensures.err)
+pub returns-in_err-run_call-in-Ok-Run-clause-answers : goal.returns-in_err-run_call-in-Ok-Run-clause-answers
+returns-in_err-run_call-in-Ok-Run-clause-answers g c =
+    let ran = c.in_err-run_call-in-Ok-Run.ensures.runs in
+    let p = err_from_is_err_and c.from_residual-in_err-run_call-in-Ok-Run.result c.from_residual-in_err-run_call-in-Ok-Run.ensures.1 in
+    rw (p.1, p.2) (subst (λ (x : SessionEnd). AnswersAll g.C.Caller.stands (g.C.Caller.seat c.args.caller.now) c.args.caller.now c.run_call.new.caller c.args.session.now c.run_call.new.session (g.K.Sink.sink c.args.sink.now) (g.K.Sink.sink c.steps.sink) (Err x)) (sym ran.2.0)
+    (since_lost g.C.Caller.stands (g.C.Caller.seat c.args.caller.now) c.args.caller.now c.steps.caller c.args.session.now c.steps.session (g.K.Sink.sink c.args.sink.now) (g.K.Sink.sink c.steps.sink) c.steps.invariant.since
+    c.run_call.new.caller c.next_request.new.self c.run_call.new.session c.in-Ok-Run.call ran.0 c.next_request.ensures.sound (subst (λ (x : Step). (x, c.next_request.new.self) ≡ next_step c.steps.session) c.in-Ok-Run.field-0-is c.in-Ok-Run.ensures.ok)
+    (subst (λ (n : ℕ). StandsOn g.C.Caller.stands c.steps.caller c.run_call.new.caller (entry_of n c.in-Ok-Run.call ran.0)) c.steps.invariant.seat ran.1) ran.2.1))
