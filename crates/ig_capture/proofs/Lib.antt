@@ -1,3 +1,4 @@
+mod AskLemmas
 mod ContentLemmas
 mod FrameLemmas
 mod FrontLemmas
