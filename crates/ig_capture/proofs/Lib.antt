@@ -1,4 +1,5 @@
 mod AskLemmas
+mod CaptureLemmas
 mod ContentLemmas
 mod FrameLemmas
 mod FrontLemmas

@@ -2,7 +2,8 @@
 use Rattle.std.specs.Prelude.{◌≡◌, ℕ, ◌++◌, List, Option, Some, None, Result, Ok, Err}
 use Rattle.ig_capture.specs.declared.fault.CaptureFault.{CaptureFault}
 use Rattle.ig_capture.specs.declared.fault.CaptureFault.TheVariants as fault
-use Rattle.ig_capture.specs.Reading.{Reading, State, Going, Stopped, fed, finished, answer_of}
+use Rattle.ig_capture.specs.EndText.{wrong_line}
+use Rattle.ig_capture.specs.Reading.{Reading, State, Going, Stopped, read_bytes, fed, finished, answer_of}
 
 abbrev pub state_of : Reading → Option CaptureFault → State
 state_of r None = Going r
@@ -17,6 +18,13 @@ pub record FeedsPiece (old new : State) (out out' piece : List ℕ) : Type 0 whe
 pub record IsSpent (new : State) (out out' : List ℕ) : Type 0 where
   pub state : new ≡ Stopped fault.NoMemory
   pub text : out' ≡ out
+
+-- a piece was read, and its text appended, unless memory runs out
+abbrev pub ShowsPiece : Reading → Reading → List ℕ → List ℕ → List ℕ → Result (Unit {0}) CaptureFault → Type 0
+ShowsPiece old new out out' piece (Ok done) = (text : List ℕ) × (read_bytes old piece ≡ (Ok new, text)) × (out' ≡ out ++ text)
+ShowsPiece old new out out' piece (Err (fault.Bad why)) =
+    (text : List ℕ) × (read_bytes old piece ≡ (Err why, text)) × (out' ≡ out ++ (text ++ wrong_line why))
+ShowsPiece old new out out' piece (Err fault.NoMemory) = out' ≡ out
 
 -- A piece was fed, and its text appended, unless memory runs out: then nothing is appended. The answer is the
 -- fault that stopped it, now or before.

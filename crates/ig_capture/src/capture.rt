@@ -1,8 +1,8 @@
 //! Showing a capture that comes in pieces.
 
-ghost use Rattle.std.specs.Prelude.{◌≡◌, ◌≢◌, ◌++◌, IfOk, Err, Ok};
+ghost use Rattle.std.specs.Prelude.{◌≡◌, IfOk};
 ghost use Rattle.ig_capture.specs.Reading as readings;
-ghost use Rattle.ig_capture.specs.Feeds.{Feeds, Finishes};
+ghost use Rattle.ig_capture.specs.Feeds.{ShowsPiece, Feeds, Finishes};
 
 use crate::cuts::{put_cuts, put_wrong};
 use crate::fault::{CaptureBad, CaptureFault};
@@ -31,6 +31,23 @@ impl Model for Capture {
     ghost view = { λ c. state_of c.reading c.stopped };
 }
 
+/// Reads a piece of a capture, and appends its text: the line of each message that ends in it, and the
+/// line that says what is malformed, if something is. Out of memory, nothing is appended.
+fn show(reading: &mut Reading, piece: &[u8], out: &mut Octets) -> Result<(), CaptureFault>
+    ensures { ShowsPiece reading.old reading.new out.old out.new piece.now result }
+{
+    let mut lines = Octets::empty(reading.alloc);
+    match read(reading, piece, &mut lines) {
+        Ok(()) => Ok(out.append(lines.as_slice())?),
+        Err(CaptureFault::Bad(bad)) => {
+            put_wrong(bad, &mut lines)?;
+            out.append(lines.as_slice())?;
+            Err(CaptureFault::Bad(bad))
+        }
+        Err(CaptureFault::NoMemory) => Err(CaptureFault::NoMemory),
+    }
+}
+
 impl Capture {
     /// Nothing was fed yet.
     pub fn new(alloc: Global) -> Result<Capture, NoMemory>
@@ -56,21 +73,12 @@ impl Capture {
         if let Some(fault) = self.stopped {
             return Err(fault);
         }
-        let mut lines = Octets::empty(self.reading.alloc);
-        let shown = match read(&mut self.reading, piece, &mut lines) {
-            Err(CaptureFault::Bad(bad)) => {
-                self.stopped = Some(CaptureFault::Bad(bad));
-                put_wrong(bad, &mut lines)
-            }
-            Err(CaptureFault::NoMemory) => Err(NoMemory),
+        match show(&mut self.reading, piece, out) {
             Ok(()) => Ok(()),
-        };
-        if shown.is_err() || out.append(lines.as_slice()).is_err() {
-            self.stopped = Some(CaptureFault::NoMemory);
-        }
-        match self.stopped {
-            None => Ok(()),
-            Some(fault) => Err(fault),
+            Err(fault) => {
+                self.stopped = Some(fault);
+                Err(fault)
+            }
         }
     }
 
