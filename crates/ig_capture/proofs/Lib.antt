@@ -5,6 +5,7 @@ mod FrameLemmas
 mod FrontLemmas
 mod HearLemmas
 mod LoopLemmas
+mod MessageLemmas
 mod OperationLemmas
 mod ReadLemmas
 mod RequestLemmas
