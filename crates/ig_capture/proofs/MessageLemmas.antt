@@ -24,7 +24,7 @@ use Rattle.ig_lines.specs.declared.line.LineAsk.TheVariants as asks
 use Rattle.ig_lines.specs.Arguments.{space}
 use Rattle.ig_lines.specs.ShownText.{FaultText}
 use Rattle.ig_capture.specs.Requests.{Unanswered, with_request, taken}
-use Rattle.ig_capture.specs.Talks.{Talk, Step, later_place, line_ask, asked_text, asked_operation, request_step, accepted_text, phase_after, greeted, told_text, content_text, reply_for, reply_after}
+use Rattle.ig_capture.specs.Talks.{Talk, Step, later_place, line_ask, asked_text, asked_operation, request_step, accepted_text, phase_after, greeted, told_text, content_text, replied, reply_for, reply_after}
 
 -- ---- requests
 
@@ -121,20 +121,12 @@ module _ (talk : Talk) (place : ℕ) (body : List ℕ) (head : ReplyHead) (s : L
             sym (append_assoc (scalar_text i64 head.id) (space ∷ []) (told_text head.told ++ content))
             ∙ sym (append_assoc (scalar_text i64 head.id ++ space ∷ []) (told_text head.told) content) ∙ sym whole in
         ap (reply_after talk place body) is ∙ ap (reply_for talk place body head s) first
-        ∙ ap (λ (c : Result (List ℕ) ℕ). answer c) shows ∙ ap (λ (t : List ℕ). Ok (record talk { unanswered = us }, t)) line
-        where
-          answer : Result (List ℕ) ℕ → Step
-          answer (Ok t) = Ok (record talk { unanswered = us }, scalar_text i64 head.id ++ space ∷ (told_text head.told ++ t))
-          answer (Err left) = Err (later_place place (frame_place body left))
+        ∙ ap (replied (record talk { unanswered = us }) place body head) shows ∙ ap (λ (t : List ℕ). Ok (record talk { unanswered = us }, t)) line
 
     pub reply_stops : (left at : ℕ) → content_text head.fault operation s ≡ Err left → at ≡ later_place place (frame_place body left) → reply_after talk place body read ≡ Err at
     reply_stops left at stops there =
         ap (reply_after talk place body) is ∙ ap (reply_for talk place body head s) first
-        ∙ ap (λ (c : Result (List ℕ) ℕ). answer c) stops ∙ ap Err (sym there)
-        where
-          answer : Result (List ℕ) ℕ → Step
-          answer (Ok t) = Ok (record talk { unanswered = us }, scalar_text i64 head.id ++ space ∷ (told_text head.told ++ t))
-          answer (Err left) = Err (later_place place (frame_place body left))
+        ∙ ap (replied (record talk { unanswered = us }) place body head) stops ∙ ap Err (sym there)
 
 -- ---- what follows the head
 
