@@ -3,6 +3,7 @@ mod CaptureLemmas
 mod ContentLemmas
 mod FrameLemmas
 mod FrontLemmas
+mod HeadLemmas
 mod HearLemmas
 mod LoopLemmas
 mod MessageLemmas

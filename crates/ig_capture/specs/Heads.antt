@@ -12,6 +12,11 @@ abbrev pub IsInHead : Field → Type 0
 IsInHead (field.Bytes server session count left) = ⊥
 IsInHead _ = Unit {0}
 
+-- while bytes of a record are read, some are left
+abbrev pub HasLeft : Field → Type 0
+HasLeft (field.Bytes server session count left) = 0 < left
+HasLeft _ = Unit {0}
+
 -- there is this session, after others that said nothing yet
 pub record HasRoom (number : ℕ) (old new : List Session) : Type 0 where
   pub sessions : new ≡ old ++ replicate (suc number - length old) fresh_session

@@ -4,7 +4,7 @@ ghost use Rattle.std.specs.Prelude.{◌≡◌, ◌<◌, length, Some, IfOk};
 ghost use Rattle.ig_capture.specs.Answers.{ShowsLines, ReadsByte};
 ghost use Rattle.ig_capture.specs.Reading as readings;
 ghost use Rattle.ig_capture.specs.Records as records;
-ghost use Rattle.ig_capture.specs.Heads.{IsInHead, ReadsSome};
+ghost use Rattle.ig_capture.specs.Heads.{IsInHead, HasLeft, ReadsSome};
 ghost use Rattle.ig_capture.specs.declared.fault.CaptureBad.TheVariants as bad;
 ghost use Rattle.ig_capture.specs.declared.fault.CaptureFault.TheVariants as faults;
 ghost use Rattle.ig_capture.specs.declared.field.Field.TheVariants.{Side};
@@ -51,6 +51,10 @@ impl Model for Reading {
       came = r.came;
       sessions = r.sessions.items;
     } };
+
+    ghost use Rattle.ig_capture.specs.Heads.{HasLeft};
+
+    ghost invariant = { λ r. HasLeft r.field };
 }
 
 impl Reading {
@@ -158,6 +162,7 @@ impl Reading {
 
     /// The next field begins this many bytes further on.
     fn next_field(&mut self, field: Field, further: u64)
+        requires { HasLeft field }
         ensures { self.new ≡ readings.next_field self.old field further }
     {
         self.field = field;
