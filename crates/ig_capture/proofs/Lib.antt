@@ -1,6 +1,7 @@
 mod AskLemmas
 mod CaptureLemmas
 mod ContentLemmas
+mod CutLemmas
 mod FrameLemmas
 mod FrontLemmas
 mod HeadLemmas

@@ -1,12 +1,13 @@
 -- Sessions by number, and what they hear.
 use Rattle.std.proofs.Common.{◌≡◌, ℕ, zero, suc, ◌+◌, ◌-◌, ◌≤◌, ◌<◌, List, [], ◌∷◌, ◌++◌, length, replicate, refl, sym, ap, subst, ◌∙◌, arith, append-nil}
-use Rattle.std.specs.Prelude.{Bool, Result, Ok, Err, slice_index_or, slice_set}
+use Rattle.std.specs.Prelude.{Bool, true, false, Result, Ok, Err, slice_index_or, slice_set}
 use Rattle.ig_capture.specs.declared.fault.CaptureBad.{CaptureBad}
 use Rattle.ig_capture.specs.declared.fault.CaptureFault.{CaptureFault}
 use Rattle.ig_capture.specs.declared.fault.CaptureFault.TheVariants as fault
 use Rattle.ig_capture.specs.Said.{Said, silent, and_then}
 use Rattle.ig_capture.specs.Answers.{ShowsLines}
-use Rattle.ig_capture.specs.Sessions.{Session, fresh_session, session_at, with_session, hear_session, hear_at}
+use Rattle.ig_frame.specs.Streams.{Stream, longer_stream}
+use Rattle.ig_capture.specs.Sessions.{Side, Session, fresh_session, side_of, with_side, longer_side, session_at, with_session, hear, hear_session, hear_at}
 
 none_said : (n k : ℕ) → session_at n (replicate k fresh_session) ≡ fresh_session
 none_said n zero = refl
@@ -60,3 +61,14 @@ shows_at old grown n server bytes s s' lines lines' result is within this shows 
     subst (λ (l : List Session). ShowsLines (hear_at old n server bytes) l lines lines' result) after
     (shows_with (hear_session n (session_at n old) server bytes) (λ t. with_session n t old) s' lines lines' result
     (subst (λ (t : Session). ShowsLines (hear_session n t server bytes) s' lines lines' result) here shows))
+
+-- a session hears bytes of a side
+pub session_heard : (number : ℕ) (s : Session) (server : Bool) (bytes : List ℕ) (stream : Stream) (next : Side) (lines lines' : List ℕ) (result : Result (Unit {0}) CaptureFault)
+    → stream ≡ longer_stream (side_of s server).stream bytes → ShowsLines (hear number server (record { stream = stream; talk = s.talk })) next lines lines' result
+    → ShowsLines (hear_session number s server bytes) (with_side s server next) lines lines' result
+session_heard number s false bytes stream next lines lines' result is shows =
+    shows_with (hear number false (longer_side (side_of s false) bytes)) (with_side s false) next lines lines' result
+    (subst (λ (t : Stream). ShowsLines (hear number false (record { stream = t; talk = s.talk })) next lines lines' result) is shows)
+session_heard number s true bytes stream next lines lines' result is shows =
+    shows_with (hear number true (longer_side (side_of s true) bytes)) (with_side s true) next lines lines' result
+    (subst (λ (t : Stream). ShowsLines (hear number true (record { stream = t; talk = s.talk })) next lines lines' result) is shows)
