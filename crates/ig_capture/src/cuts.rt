@@ -9,6 +9,13 @@ use crate::texts::{put_line, put_number};
 use ig_base::{NoMemory, Octets};
 use std::alloc::Global;
 
+/// The name of a side.
+fn side_name(server: bool) -> &'static [u8]
+    ensures { result.now ≡ ends.side_text server }
+{
+    if server { b"server" } else { b"client" }
+}
+
 /// Appends the line that says what is malformed.
 pub(crate) fn put_wrong(bad: CaptureBad, out: &mut Octets) -> Result<(), NoMemory>
     ensures { OnOk result (out.new ≡ out.old ++ ends.wrong_line bad) }
@@ -25,7 +32,9 @@ pub(crate) fn put_wrong(bad: CaptureBad, out: &mut Octets) -> Result<(), NoMemor
         } => {
             out.append(b"malformed session ")?;
             put_number(u64::from(session), out)?;
-            out.append(if server { b" side server place " } else { b" side client place " })?;
+            out.append(b" side ")?;
+            out.append(side_name(server))?;
+            out.append(b" place ")?;
             put_number(place, out)?;
         }
     }

@@ -1,6 +1,8 @@
 //! Reading the records of a capture, in pieces of any length.
 
 ghost use Rattle.std.specs.Prelude.{◌≡◌, ◌<◌, length, Some, IfOk};
+ghost use Rattle.std.specs.Int.{w32};
+ghost use Rattle.ig_base.specs.Numbers.{number_at};
 ghost use Rattle.ig_capture.specs.Answers.{ShowsLines, ReadsByte};
 ghost use Rattle.ig_capture.specs.Reading as readings;
 ghost use Rattle.ig_capture.specs.Records as records;
@@ -122,30 +124,51 @@ impl Reading {
             return Ok(());
         };
         match self.field {
-            Field::Magic => {
-                if self.came.as_slice() != MAGIC {
-                    return Err(self.malformed());
-                }
-                self.next_field(Field::Side, 4);
-            }
-            Field::Session { server } => match within(number, 0, SESSIONS - 1) {
-                Some(session) => self.next_field(Field::Count { server, session }, 4),
-                None => return Err(self.malformed()),
-            },
-            Field::Count { server, session } => match within(number, 1, MOST_BYTES) {
-                Some(count) => {
-                    let field = Field::Bytes {
-                        server,
-                        session,
-                        count,
-                        left: count,
-                    };
-                    self.next_field(field, 4);
-                }
-                None => return Err(self.malformed()),
-            },
-            Field::Side | Field::Bytes { .. } => {}
+            Field::Magic => self.magic(),
+            Field::Session { server } => self.session(server, number),
+            Field::Count { server, session } => self.count(server, session, number),
+            Field::Side | Field::Bytes { .. } => Ok(()),
         }
+    }
+
+    /// The first four bytes, which are there.
+    fn magic(&mut self) -> Result<(), CaptureFault>
+        ensures { ReadsByte (readings.magic_whole self.old self.old.came) self.new result }
+    {
+        if self.came.as_slice() != MAGIC {
+            return Err(self.malformed());
+        }
+        self.next_field(Field::Side, 4);
+        Ok(())
+    }
+
+    /// The session of a record, which is there.
+    fn session(&mut self, server: bool, number: i32) -> Result<(), CaptureFault>
+        requires { number_at w32 self.old.came 0 ≡ Some number }
+        ensures { ReadsByte (readings.session_whole server self.old self.old.came) self.new result }
+    {
+        let Some(session) = within(number, 0, SESSIONS - 1) else {
+            return Err(self.malformed());
+        };
+        self.next_field(Field::Count { server, session }, 4);
+        Ok(())
+    }
+
+    /// The number of the bytes of a record, which is there.
+    fn count(&mut self, server: bool, session: u32, number: i32) -> Result<(), CaptureFault>
+        requires { number_at w32 self.old.came 0 ≡ Some number }
+        ensures { ReadsByte (readings.count_whole server session self.old self.old.came) self.new result }
+    {
+        let Some(count) = within(number, 1, MOST_BYTES) else {
+            return Err(self.malformed());
+        };
+        let field = Field::Bytes {
+            server,
+            session,
+            count,
+            left: count,
+        };
+        self.next_field(field, 4);
         Ok(())
     }
 

@@ -31,14 +31,16 @@ pub(crate) fn put_result(
     ensures { ShowsContent place body.now (text_by (form_for operation) (drop at body.now))
         text.old text.new result }
 {
-    match operation {
-        None => Ok(put_unread(body.len() - at, text)?),
-        Some(Operation::PartitionMaps) => put_map_result(alloc, place, body, at, text),
-        Some(operation) if is_of_types(operation) => {
-            put_types_result(alloc, operation, place, body, at, text)
-        }
-        Some(operation) => put_rows_result(alloc, operation, place, body, at, text),
+    let Some(operation) = operation else {
+        return Ok(put_unread(body.len() - at, text)?);
+    };
+    if let Operation::PartitionMaps = operation {
+        return put_map_result(alloc, place, body, at, text);
     }
+    if is_of_types(operation) {
+        return put_types_result(alloc, operation, place, body, at, text);
+    }
+    put_rows_result(alloc, operation, place, body, at, text)
 }
 
 /// Appends the number of bytes of a result that isn't read.

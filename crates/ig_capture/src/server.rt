@@ -2,7 +2,7 @@
 
 ghost use Rattle.std.specs.Prelude.{◌≡◌, ◌≤◌, ◌++◌, [], drop, length, Option, OnOk};
 ghost use Rattle.ig_capture.specs.Answers.{ShowsStep, ShowsContent};
-ghost use Rattle.ig_capture.specs.Talks.{server_message, greeting_step, reply_after, accepted_text, told_text, content_text, least};
+ghost use Rattle.ig_capture.specs.Talks.{server_message, greeting_step, reply_after, accepted_text, phase_after as phase_read, told_text, content_text, least};
 ghost use Rattle.ig_wire.specs.Heads.{head_of};
 
 use crate::phase::Phase;
@@ -39,6 +39,16 @@ fn put_greeting(reply: &HelloReply, text: &mut Octets) -> Result<(), NoMemory>
             text.push(b' ')?;
             reason.put(text)
         }
+    }
+}
+
+/// How far the session has come after the reply to a hello that asked for this version.
+fn phase_after(version: Version, reply: &HelloReply) -> Phase
+    ensures { result ≡ phase_read version reply.now }
+{
+    match reply {
+        HelloReply::Accepted { .. } => Phase::Talking(version),
+        HelloReply::Refused { .. } => Phase::Closed,
     }
 }
 
@@ -123,10 +133,7 @@ impl Talk {
             Err(fault) => return Err(Stop::of(place, fault)),
         };
         put_greeting(&reply, text)?;
-        self.phase = match reply {
-            HelloReply::Accepted { .. } => Phase::Talking(version),
-            HelloReply::Refused { .. } => Phase::Closed,
-        };
+        self.phase = phase_after(version, &reply);
         Ok(())
     }
 

@@ -6,7 +6,7 @@ ghost use Rattle.ig_value.specs.Part.{i64};
 ghost use Rattle.ig_text.specs.Tokens.{scalar_text};
 ghost use Rattle.ig_lines.specs.Arguments.{space};
 ghost use Rattle.ig_capture.specs.Talks.{version_text};
-ghost use Rattle.ig_capture.specs.Sessions.{message_line};
+ghost use Rattle.ig_capture.specs.Sessions.{message_line, arrow as arrow_of};
 
 use ig_base::{NoMemory, Octets};
 use ig_text::PutText;
@@ -39,6 +39,13 @@ pub(crate) fn put_id(id: i64, out: &mut Octets) -> Result<(), NoMemory>
     out.push(b' ')
 }
 
+/// The arrow of a side.
+fn arrow(server: bool) -> u8
+    ensures { result ≡ arrow_of server }
+{
+    if server { b'<' } else { b'>' }
+}
+
 /// Appends the line of a message.
 pub(crate) fn put_line(
     session: u64,
@@ -49,7 +56,9 @@ pub(crate) fn put_line(
     ensures { OnOk result (out.new ≡ out.old ++ message_line session server text.now) }
 {
     put_number(session, out)?;
-    out.append(if server { b" < " } else { b" > " })?;
+    out.push(b' ')?;
+    out.push(arrow(server))?;
+    out.push(b' ')?;
     out.append(text)?;
     out.push(b'\n')
 }
