@@ -124,15 +124,15 @@ impl Reading {
             return Ok(());
         };
         match self.field {
-            Field::Magic => self.magic(),
-            Field::Session { server } => self.session(server, number),
-            Field::Count { server, session } => self.count(server, session, number),
+            Field::Magic => self.magic_read(),
+            Field::Session { server } => self.session_read(server, number),
+            Field::Count { server, session } => self.count_read(server, session, number),
             Field::Side | Field::Bytes { .. } => Ok(()),
         }
     }
 
     /// The first four bytes, which are there.
-    fn magic(&mut self) -> Result<(), CaptureFault>
+    fn magic_read(&mut self) -> Result<(), CaptureFault>
         ensures { ReadsByte (readings.magic_whole self.old self.old.came) self.new result }
     {
         if self.came.as_slice() != MAGIC {
@@ -143,7 +143,7 @@ impl Reading {
     }
 
     /// The session of a record, which is there.
-    fn session(&mut self, server: bool, number: i32) -> Result<(), CaptureFault>
+    fn session_read(&mut self, server: bool, number: i32) -> Result<(), CaptureFault>
         requires { number_at w32 self.old.came 0 ≡ Some number }
         ensures { ReadsByte (readings.session_whole server self.old self.old.came) self.new result }
     {
@@ -155,7 +155,7 @@ impl Reading {
     }
 
     /// The number of the bytes of a record, which is there.
-    fn count(&mut self, server: bool, session: u32, number: i32) -> Result<(), CaptureFault>
+    fn count_read(&mut self, server: bool, session: u32, number: i32) -> Result<(), CaptureFault>
         requires { number_at w32 self.old.came 0 ≡ Some number }
         ensures { ReadsByte (readings.count_whole server session self.old self.old.came) self.new result }
     {
