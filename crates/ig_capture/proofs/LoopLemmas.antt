@@ -23,21 +23,21 @@ pub record SaidSoFar {A : Type 0} (all : Said A CaptureBad) (rest : A → Said A
 -- one more step
 said_next : {A : Type 0} (all : Said A CaptureBad) (rest rest' : A → Said A CaptureBad) (now next : A) (lines lines' lines'' text : List ℕ)
     → SaidSoFar all rest now lines lines' → rest now ≡ and_then (Ok next, text) rest' → lines'' ≡ lines' ++ text → SaidSoFar all rest' next lines lines''
-said_next all rest rest' now next lines lines' lines'' text so step more = record {
+said_next {A} all rest rest' now next lines lines' lines'' text so step more = record {
   text = so.text ++ text;
-  said = so.said ∙ ap (λ (s : Said _ CaptureBad). (s.0, so.text ++ s.1)) step ∙ sym (printed_first so.text (Ok next, text) rest');
+  said = so.said ∙ ap (λ (s : Said A CaptureBad). (s.0, so.text ++ s.1)) step ∙ sym (printed_first so.text (Ok next, text) rest');
   printed = more ∙ ap (λ (l : List ℕ). l ++ text) so.printed ∙ append_assoc lines so.text text;
 }
 
 -- the last step
 said_end : {A : Type 0} (all : Said A CaptureBad) (rest : A → Said A CaptureBad) (now : A) (lines lines' : List ℕ)
     → SaidSoFar all rest now lines lines' → rest now ≡ silent now → ShowsLines all now lines lines' (Ok tt)
-said_end all rest now lines lines' so end = (so.text, so.said ∙ ap (λ (s : Said _ CaptureBad). (s.0, so.text ++ s.1)) end ∙ ap (λ (t : List ℕ). (Ok now, t)) (append-nil so.text), so.printed)
+said_end {A} all rest now lines lines' so end = (so.text, so.said ∙ ap (λ (s : Said A CaptureBad). (s.0, so.text ++ s.1)) end ∙ ap (λ (t : List ℕ). (Ok now, t)) (append-nil so.text), so.printed)
 
 said_wrong : {A : Type 0} (all : Said A CaptureBad) (rest : A → Said A CaptureBad) (now after : A) (lines lines' lines'' text : List ℕ) (why : CaptureBad)
     → SaidSoFar all rest now lines lines' → rest now ≡ (Err why, text) → lines'' ≡ lines' ++ text → ShowsLines all after lines lines'' (Err (fault.Bad why))
-said_wrong all rest now after lines lines' lines'' text why so wrong more =
-    (so.text ++ text, so.said ∙ ap (λ (s : Said _ CaptureBad). (s.0, so.text ++ s.1)) wrong, more ∙ ap (λ (l : List ℕ). l ++ text) so.printed ∙ append_assoc lines so.text text)
+said_wrong {A} all rest now after lines lines' lines'' text why so wrong more =
+    (so.text ++ text, so.said ∙ ap (λ (s : Said A CaptureBad). (s.0, so.text ++ s.1)) wrong, more ∙ ap (λ (l : List ℕ). l ++ text) so.printed ∙ append_assoc lines so.text text)
 
 -- ---- frames
 

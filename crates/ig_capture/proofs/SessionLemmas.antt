@@ -43,11 +43,11 @@ set_index (suc n) s (t ∷ ss) within = ap (λ (l : List Session). t ∷ l) (set
 -- what was said, seen as a part of something larger
 pub shows_with : {A B : Type 0} (said : Said A CaptureBad) (f : A → B) (x : A) (lines lines' : List ℕ) (result : Result (Unit {0}) CaptureFault) → ShowsLines said x lines lines' result
     → ShowsLines (and_then said (λ y. silent (f y))) (f x) lines lines' result
-shows_with said f x lines lines' (Ok done) shows =
-    (shows.0, ap (λ (s : Said _ CaptureBad). and_then s (λ y. silent (f y))) shows.1 ∙ ap (λ (t : List ℕ). (Ok (f x), t)) (append-nil shows.0), shows.2)
-shows_with said f x lines lines' (Err (fault.Bad why)) shows =
-    (shows.0, ap (λ (s : Said _ CaptureBad). and_then s (λ y. silent (f y))) shows.1, shows.2)
-shows_with said f x lines lines' (Err fault.NoMemory) shows = tt
+shows_with {A} {B} said f x lines lines' (Ok done) shows =
+    (shows.0, ap (λ (s : Said A CaptureBad). and_then s (λ y. silent (f y))) shows.1 ∙ ap (λ (t : List ℕ). (Ok (f x), t)) (append-nil shows.0), shows.2)
+shows_with {A} {B} said f x lines lines' (Err (fault.Bad why)) shows =
+    (shows.0, ap (λ (s : Said A CaptureBad). and_then s (λ y. silent (f y))) shows.1, shows.2)
+shows_with {A} {B} said f x lines lines' (Err fault.NoMemory) shows = tt
 
 -- a session of a list with room for it
 pub shows_at : (old grown : List Session) (n : ℕ) (server : Bool) (bytes : List ℕ) (s s' : Session) (lines lines' : List ℕ) (result : Result (Unit {0}) CaptureFault)
