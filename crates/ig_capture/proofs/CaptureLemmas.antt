@@ -1,5 +1,5 @@
 -- Feeding a capture, by how its reading went.
-use Rattle.std.proofs.Common.{◌≡◌, ℕ, List, [], ◌++◌, Option, Some, None, Result, Ok, Err, refl, sym, ap, ◌∙◌, append-nil}
+use Rattle.std.proofs.Common.{◌≡◌, ℕ, List, [], ◌++◌, Option, Some, None, Result, Ok, Err, refl, sym, ap, subst, ◌∙◌, append-nil}
 use Rattle.ig_capture.specs.declared.fault.CaptureBad.{CaptureBad}
 use Rattle.ig_capture.specs.declared.fault.CaptureBad.TheVariants as bad
 use Rattle.ig_capture.specs.declared.fault.CaptureFault.{CaptureFault}
@@ -8,7 +8,7 @@ use Rattle.ig_capture.specs.declared.field.Field.{Field}
 use Rattle.ig_capture.specs.declared.field.Field.TheVariants.{Side}
 use Rattle.ig_capture.specs.EndText.{wrong_line, cuts_of}
 use Rattle.ig_capture.specs.Reading.{Reading, Read, State, Going, Stopped, read_bytes, settled, fed, finished, answer_of, wrong_end, end_of}
-use Rattle.ig_capture.specs.Feeds.{state_of, ShowsPiece, FeedsPiece, IsSpent, Feeds, Finishes}
+use Rattle.ig_capture.specs.Feeds.{state_of, ShowsPiece, FeedsPiece, IsSpent, Feeds, StaysStopped, Finishes}
 
 -- it had stopped before
 pub feeds_stopped : (r : Reading) (why : CaptureFault) (old : State) (out piece : List ℕ) → state_of r (Some why) ≡ old → Feeds old old out out piece (Err why)
@@ -42,6 +42,13 @@ feeds_wrong r r' (fault.Bad why) old out out' piece is shows = (
     refl,
   )
 feeds_wrong r r' fault.NoMemory old out out' piece is shows = record { state = refl; text = shows }
+
+-- it stays stopped
+pub stays_stopped : (r : Reading) (why : CaptureFault) (old : State) (out : List ℕ) → state_of r (Some why) ≡ old → StaysStopped old old out out (Err why)
+stays_stopped r why old out is = subst (λ (s : State). StaysStopped s s out out (Err why)) is (refl, refl, refl)
+
+pub stays_going : (r : Reading) (old new : State) (out out' : List ℕ) (answer : Result (Unit {0}) CaptureFault) → state_of r None ≡ old → StaysStopped old new out out' answer
+stays_going r old new out out' answer is = subst (λ (s : State). StaysStopped s new out out' answer) is tt
 
 -- ---- the end
 

@@ -32,6 +32,11 @@ abbrev pub Feeds : State → State → List ℕ → List ℕ → List ℕ → Re
 Feeds old new out out' piece (Err fault.NoMemory) = IsSpent new out out'
 Feeds old new out out' piece answer = FeedsPiece old new out out' piece × (answer ≡ answer_of new)
 
+-- after a fault it stays as it is and answers this fault again
+abbrev pub StaysStopped : State → State → List ℕ → List ℕ → Result (Unit {0}) CaptureFault → Type 0
+StaysStopped (Going r) new out out' answer = Unit {0}
+StaysStopped (Stopped why) new out out' answer = (answer ≡ Err why) × (new ≡ Stopped why) × (out' ≡ out)
+
 -- what the end adds was appended, unless memory runs out: then nothing is
 abbrev pub Finishes : State → List ℕ → List ℕ → Result (Unit {0}) CaptureFault → Type 0
 Finishes s out out' (Err fault.NoMemory) = out' ≡ out

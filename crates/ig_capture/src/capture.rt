@@ -2,7 +2,7 @@
 
 ghost use Rattle.std.specs.Prelude.{◌≡◌, IfOk};
 ghost use Rattle.ig_capture.specs.Reading as readings;
-ghost use Rattle.ig_capture.specs.Feeds.{ShowsPiece, Feeds, Finishes};
+ghost use Rattle.ig_capture.specs.Feeds.{ShowsPiece, Feeds, StaysStopped, Finishes};
 
 use crate::cuts::{put_cuts, put_wrong};
 use crate::fault::{CaptureBad, CaptureFault};
@@ -68,7 +68,8 @@ impl Capture {
     /// whole and out of range, or a message. [`CaptureFault::NoMemory`] if memory runs out: nothing is
     /// appended, and every later call answers it again.
     pub fn feed(&mut self, piece: &[u8], out: &mut Octets) -> Result<(), CaptureFault>
-        ensures { Feeds self.old self.new out.old out.new piece.now result }
+        ensures feeds { Feeds self.old self.new out.old out.new piece.now result }
+        ensures stays { StaysStopped self.old self.new out.old out.new result }
     {
         if let Some(fault) = self.stopped {
             return Err(fault);
@@ -90,7 +91,8 @@ impl Capture {
     /// [`CaptureFault::Bad`] exactly if something in the capture is malformed, and
     /// [`CaptureFault::NoMemory`] if memory runs out, with nothing appended.
     pub fn finish(self, out: &mut Octets) -> Result<(), CaptureFault>
-        ensures { Finishes self out.old out.new result }
+        ensures finishes { Finishes self out.old out.new result }
+        ensures stays { StaysStopped self self out.old out.new result }
     {
         let Capture { reading, stopped } = self;
         if let Some(fault) = stopped {
