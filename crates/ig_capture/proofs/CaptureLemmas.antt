@@ -13,34 +13,34 @@ use Rattle.ig_capture.specs.Feeds.{state_of, ShowsPiece, FeedsPiece, IsSpent, Fe
 -- it had stopped before
 pub feeds_stopped : (r : Reading) (why : CaptureFault) (old : State) (out piece : List ℕ) → state_of r (Some why) ≡ old → Feeds old old out out piece (Err why)
 feeds_stopped r (fault.Bad why) old out piece is = (
-    record {
-      state = sym is ∙ ap (λ (s : State). (fed s piece).0) is;
-      text = sym (append-nil out) ∙ ap (λ (s : State). out ++ (fed s piece).1) is;
-    },
-    ap answer_of is,
-  )
+  record {
+    state = sym is ∙ ap (λ (s : State). (fed s piece).0) is;
+    text = sym (append-nil out) ∙ ap (λ (s : State). out ++ (fed s piece).1) is;
+  },
+  ap answer_of is,
+)
 feeds_stopped r fault.NoMemory old out piece is = record { state = sym is; text = refl }
 
 -- it goes on
 pub feeds_going : (r r' : Reading) (old : State) (out out' piece : List ℕ) → state_of r None ≡ old → ShowsPiece r r' out out' piece (Ok tt) → Feeds old (state_of r' None) out out' piece (Ok tt)
 feeds_going r r' old out out' piece is shows = (
-    record {
-      state = ap (λ (x : Read). (settled x).0) (sym shows.1) ∙ ap (λ (s : State). (fed s piece).0) is;
-      text = shows.2 ∙ ap (λ (x : Read). out ++ (settled x).1) (sym shows.1) ∙ ap (λ (s : State). out ++ (fed s piece).1) is;
-    },
-    refl,
-  )
+  record {
+    state = ap (λ (x : Read). (settled x).0) (sym shows.1) ∙ ap (λ (s : State). (fed s piece).0) is;
+    text = shows.2 ∙ ap (λ (x : Read). out ++ (settled x).1) (sym shows.1) ∙ ap (λ (s : State). out ++ (fed s piece).1) is;
+  },
+  refl,
+)
 
 -- it stops
 pub feeds_wrong : (r r' : Reading) (why : CaptureFault) (old : State) (out out' piece : List ℕ) → state_of r None ≡ old → ShowsPiece r r' out out' piece (Err why)
     → Feeds old (state_of r' (Some why)) out out' piece (Err why)
 feeds_wrong r r' (fault.Bad why) old out out' piece is shows = (
-    record {
-      state = ap (λ (x : Read). (settled x).0) (sym shows.1) ∙ ap (λ (s : State). (fed s piece).0) is;
-      text = shows.2 ∙ ap (λ (x : Read). out ++ (settled x).1) (sym shows.1) ∙ ap (λ (s : State). out ++ (fed s piece).1) is;
-    },
-    refl,
-  )
+  record {
+    state = ap (λ (x : Read). (settled x).0) (sym shows.1) ∙ ap (λ (s : State). (fed s piece).0) is;
+    text = shows.2 ∙ ap (λ (x : Read). out ++ (settled x).1) (sym shows.1) ∙ ap (λ (s : State). out ++ (fed s piece).1) is;
+  },
+  refl,
+)
 feeds_wrong r r' fault.NoMemory old out out' piece is shows = record { state = refl; text = shows }
 
 -- it stays stopped

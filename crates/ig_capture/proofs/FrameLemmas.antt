@@ -40,9 +40,12 @@ module _ (session : ℕ) (server : Bool) (stream : Stream) (talk : Talk) where
 
     pub hears_frame : (frames : Stream) → frames ≡ stream_after_frame (least server talk.phase) stream → Shows (Ok tt) → HearsFrame session server this (record { stream = frames; talk = talk' }) lines lines' (Ok true)
     hears_frame frames passed shows =
-        subst (λ (s : Stream). HearsFrame session server this (record { stream = s; talk = talk' }) lines lines' (Ok true)) (sym (passed ∙ passes))
-        (shows.0, by_front session server this (Body body rest) found ∙ ap (λ (s : Said Side CaptureBad). and_then s (hear session server)) shows.1, shows.2,
-        front_shorter (least server talk.phase) stream.limit stream.rest body rest found)
+        subst (λ (s : Stream). HearsFrame session server this (record { stream = s; talk = talk' }) lines lines' (Ok true)) (sym (passed ∙ passes)) (
+          shows.0,
+          by_front session server this (Body body rest) found ∙ ap (λ (s : Said Side CaptureBad). and_then s (hear session server)) shows.1,
+          shows.2,
+          front_shorter (least server talk.phase) stream.limit stream.rest body rest found,
+        )
 
     pub hears_wrong : (next : Side) (e : CaptureFault) → Shows (Err e) → HearsFrame session server this next lines lines' (Err e)
     hears_wrong next (fault.Bad why) shows =

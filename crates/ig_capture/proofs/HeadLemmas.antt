@@ -72,11 +72,14 @@ module _ (server : Bool) (session count left : ℕ) (r : Reading) (is : r.field 
       → ReadsSome piece r (fewer_left server session count left n (record r { sessions = heard })) lines lines' (Ok n)
   run_some [] n heard lines lines' some low high shows = absurd (omega (arith, some, high))
   run_some (byte ∷ s) zero heard lines lines' some low high shows = absurd (omega (arith, some))
-  run_some (byte ∷ s) (suc k) heard lines lines' some low high shows =
-      (shows.0, some, high,
-      run_of k byte s low (omega (arith, high)) ∙ ap (λ (x : Said (List state.Session) CaptureBad). and_then x (left_after server session count left (suc k) r)) shows.1
-      ∙ ap (λ (t : List ℕ). (Ok (fewer_left server session count left (suc k) (record r { sessions = heard })), t)) (append-nil shows.0),
-      shows.2)
+  run_some (byte ∷ s) (suc k) heard lines lines' some low high shows = (
+    shows.0,
+    some,
+    high,
+    run_of k byte s low (omega (arith, high)) ∙ ap (λ (x : Said (List state.Session) CaptureBad). and_then x (left_after server session count left (suc k) r)) shows.1
+        ∙ ap (λ (t : List ℕ). (Ok (fewer_left server session count left (suc k) (record r { sessions = heard })), t)) (append-nil shows.0),
+    shows.2,
+  )
 
   pub run_wrong : (piece : List ℕ) (n : ℕ) (heard : List state.Session) (new : Reading) (lines lines' : List ℕ) (why : CaptureBad) → 0 < n → n ≤ left → n ≤ length piece
       → ShowsLines (hear_at r.sessions session server (take n piece)) heard lines lines' (Err (fault.Bad why)) → ReadsSome piece r new lines lines' (Err (fault.Bad why))

@@ -63,14 +63,14 @@ module _ (session : ℕ) (server : Bool) where
       enough (length (bytes_of side)) (suc (length (bytes_of side))) side (omega arith) (omega arith)
       ∙ ap (hear_front (hear_most (length (bytes_of side)) session server) session server side) is
       ∙ whole f is
-      where
-        whole : (g : Front) → front_of server side ≡ g → hear_front (hear_most (length (bytes_of side)) session server) session server side g ≡ hear_front (hear session server) session server side g
-        whole (Body body rest) found =
-            let fewer : length rest < length (bytes_of side) = front_shorter (least server side.talk.phase) side.stream.limit (bytes_of side) body rest found in
-            same_after (hear_most (length (bytes_of side)) session server) (hear session server) side body rest (message side.talk server side.stream.place body)
-            (λ talk. enough (length (bytes_of side)) (length rest) (after_frame side body rest talk) (omega (arith, fewer)) (omega arith))
-        whole (Bad n) found = refl
-        whole (Incomplete n) found = refl
+    where
+      whole : (g : Front) → front_of server side ≡ g → hear_front (hear_most (length (bytes_of side)) session server) session server side g ≡ hear_front (hear session server) session server side g
+      whole (Body body rest) found =
+          let fewer : length rest < length (bytes_of side) = front_shorter (least server side.talk.phase) side.stream.limit (bytes_of side) body rest found in
+          same_after (hear_most (length (bytes_of side)) session server) (hear session server) side body rest (message side.talk server side.stream.place body)
+          (λ talk. enough (length (bytes_of side)) (length rest) (after_frame side body rest talk) (omega (arith, fewer)) (omega arith))
+      whole (Bad n) found = refl
+      whole (Incomplete n) found = refl
 
   -- ---- more bytes
 
@@ -88,7 +88,7 @@ module _ (session : ℕ) (server : Bool) where
       let line : List ℕ = message_line session server x.1 in
       let all : length (rest ++ more) ≤ length (bytes_of side ++ more) = omega (arith, fewer, length-append rest more, length-append (bytes_of side) more) in
       let later : hear_most (length (bytes_of side ++ more)) session server (longer_side next more) ≡ and_then (hear_most m session server next) (λ x. hear session server (longer_side x more)) =
-          enough (length (bytes_of side ++ more)) (length (rest ++ more)) (longer_side next more) all (omega arith) ∙ fewer_hear next more (omega (arith, fewer, low)) in
+      enough (length (bytes_of side ++ more)) (length (rest ++ more)) (longer_side next more) all (omega arith) ∙ fewer_hear next more (omega (arith, fewer, low)) in
       ap (λ (s : Said Side CaptureBad). (s.0, line ++ s.1)) later
       ∙ sym (printed_first line (hear_most m session server next) (λ x. hear session server (longer_side x more)))
 
@@ -130,11 +130,11 @@ session_pieces number s server first second =
     ∙ assoc (hear number server (longer_side (side_of s server) first)) (λ x. hear number server (longer_side x second)) (λ side. silent (with_side s server side))
     ∙ by_side server
     ∙ sym (assoc (hear number server (longer_side (side_of s server) first)) (λ side. silent (with_side s server side)) (λ t. hear_session number t server second))
-    where
-      by_side : (b : Bool) → and_then (hear number b (longer_side (side_of s b) first)) (λ x. and_then (hear number b (longer_side x second)) (λ side. silent (with_side s b side)))
-          ≡ and_then (hear number b (longer_side (side_of s b) first)) (λ x. and_then (silent (with_side s b x)) (λ t. hear_session number t b second))
-      by_side false = same_next (hear number false (longer_side (side_of s false) first)) _ _ (λ x. refl)
-      by_side true = same_next (hear number true (longer_side (side_of s true) first)) _ _ (λ x. refl)
+  where
+    by_side : (b : Bool) → and_then (hear number b (longer_side (side_of s b) first)) (λ x. and_then (hear number b (longer_side x second)) (λ side. silent (with_side s b side)))
+        ≡ and_then (hear number b (longer_side (side_of s b) first)) (λ x. and_then (silent (with_side s b x)) (λ t. hear_session number t b second))
+    by_side false = same_next (hear number false (longer_side (side_of s false) first)) _ _ (λ x. refl)
+    by_side true = same_next (hear number true (longer_side (side_of s true) first)) _ _ (λ x. refl)
 
 at_with : (n : ℕ) (s : Session) (ss : List Session) → session_at n (with_session n s ss) ≡ s
 at_with zero s [] = refl
@@ -158,10 +158,10 @@ at_pieces ss number server first second =
     ∙ same_next start (λ t. and_then (hear_session number t server second) (λ s. silent (with_session number s ss)))
     (λ t. and_then (silent (with_session number t ss)) (λ later. hear_at later number server second)) again
     ∙ sym (assoc start (λ s. silent (with_session number s ss)) (λ later. hear_at later number server second))
-    where
-      again : (t : Session) → and_then (hear_session number t server second) (λ s. silent (with_session number s ss))
-          ≡ and_then (silent (with_session number t ss)) (λ later. hear_at later number server second)
-      again t =
-          sym (ap (λ (u : Session). and_then (hear_session number u server second) (λ s. silent (with_session number s (with_session number t ss)))) (at_with number t ss)
-          ∙ same_next (hear_session number t server second) (λ s. silent (with_session number s (with_session number t ss))) (λ s. silent (with_session number s ss))
-          (λ s. ap (λ (l : List Session). silent l) (with_with number t s ss)))
+  where
+    again : (t : Session) → and_then (hear_session number t server second) (λ s. silent (with_session number s ss))
+        ≡ and_then (silent (with_session number t ss)) (λ later. hear_at later number server second)
+    again t =
+        sym (ap (λ (u : Session). and_then (hear_session number u server second) (λ s. silent (with_session number s (with_session number t ss)))) (at_with number t ss)
+        ∙ same_next (hear_session number t server second) (λ s. silent (with_session number s (with_session number t ss))) (λ s. silent (with_session number s ss))
+        (λ s. ap (λ (l : List Session). silent l) (with_with number t s ss)))

@@ -95,13 +95,13 @@ pub read_all : (piece : List ℕ) (at : ℕ) (start now : Reading) (lines lines'
     → ReadSoFar piece at start now lines lines' → ShowsLines (read_bytes start piece) now lines lines' (Ok tt)
 read_all piece at start now lines lines' all so =
     said_end (read_bytes start piece) (λ r. read_bytes r (drop at piece)) now lines lines' so (ap (read_bytes now) (nothing piece at all))
-    where
-      nothing : (s : List ℕ) (k : ℕ) → length s ≤ k → drop k s ≡ []
-      nothing s k short = empty (drop k s) (omega (arith, length-drop k s, short))
-        where
-          empty : (l : List ℕ) → length l ≡ 0 → l ≡ []
-          empty [] e = refl
-          empty (b ∷ l) e = absurd (omega (arith, e))
+  where
+    nothing : (s : List ℕ) (k : ℕ) → length s ≤ k → drop k s ≡ []
+    nothing s k short = empty (drop k s) (omega (arith, length-drop k s, short))
+      where
+        empty : (l : List ℕ) → length l ≡ 0 → l ≡ []
+        empty [] e = refl
+        empty (b ∷ l) e = absurd (omega (arith, e))
 
 pub read_wrong : (piece rest : List ℕ) (at : ℕ) (start now next : Reading) (lines lines' lines'' : List ℕ) (e : CaptureFault) → rest ≡ drop at piece
     → ReadSoFar piece at start now lines lines' → ReadsSome rest now next lines' lines'' (Err e)

@@ -42,11 +42,11 @@ pub request_heard : (talk : Talk) (v : Version) (body : List ℕ) (read : Result
     → text ≡ (scalar_text i64 id ++ space ∷ []) ++ asked_text read → request_step talk v body ≡ Ok (record talk { unanswered = us }, text)
 request_heard talk v body read id operation us text is ids operations added whole =
     let one : request_step talk v body ≡ Ok (record talk { unanswered = with_request (id_in body) (asked_operation (operation_in body) read) talk.unanswered }, scalar_text i64 (id_in body) ++ space ∷ asked_text read) =
-        ap (λ (r : Result Request AskFault). Ok (record talk { unanswered = with_request (id_in body) (asked_operation (operation_in body) r) talk.unanswered }, scalar_text i64 (id_in body) ++ space ∷ asked_text r)) is in
+    ap (λ (r : Result Request AskFault). Ok (record talk { unanswered = with_request (id_in body) (asked_operation (operation_in body) r) talk.unanswered }, scalar_text i64 (id_in body) ++ space ∷ asked_text r)) is in
     let same : with_request (id_in body) (asked_operation (operation_in body) read) talk.unanswered ≡ us =
-        ap (λ (o : Option Operation). with_request (id_in body) o talk.unanswered) (sym operations) ∙ ap (λ (n : ℤ). with_request n operation talk.unanswered) (sym ids) ∙ sym added in
+    ap (λ (o : Option Operation). with_request (id_in body) o talk.unanswered) (sym operations) ∙ ap (λ (n : ℤ). with_request n operation talk.unanswered) (sym ids) ∙ sym added in
     let line : scalar_text i64 (id_in body) ++ space ∷ asked_text read ≡ text =
-        ap (λ (n : ℤ). scalar_text i64 n ++ space ∷ asked_text read) (sym ids) ∙ sym (append_assoc (scalar_text i64 id) (space ∷ []) (asked_text read)) ∙ sym whole in
+    ap (λ (n : ℤ). scalar_text i64 n ++ space ∷ asked_text read) (sym ids) ∙ sym (append_assoc (scalar_text i64 id) (space ∷ []) (asked_text read)) ∙ sym whole in
     one ∙ ap (λ (u : Unanswered). Ok (record talk { unanswered = u }, scalar_text i64 (id_in body) ++ space ∷ asked_text read)) same
     ∙ ap (λ (t : List ℕ). Ok (record talk { unanswered = us }, t)) line
 
@@ -118,8 +118,8 @@ module _ (talk : Talk) (place : ℕ) (body : List ℕ) (head : ReplyHead) (s : L
         → reply_after talk place body read ≡ Ok (record talk { unanswered = us }, text)
     reply_shown content text shows whole =
         let line : scalar_text i64 head.id ++ space ∷ (told_text head.told ++ content) ≡ text =
-            sym (append_assoc (scalar_text i64 head.id) (space ∷ []) (told_text head.told ++ content))
-            ∙ sym (append_assoc (scalar_text i64 head.id ++ space ∷ []) (told_text head.told) content) ∙ sym whole in
+        sym (append_assoc (scalar_text i64 head.id) (space ∷ []) (told_text head.told ++ content))
+        ∙ sym (append_assoc (scalar_text i64 head.id ++ space ∷ []) (told_text head.told) content) ∙ sym whole in
         ap (reply_after talk place body) is ∙ ap (reply_for talk place body head s) first
         ∙ ap (replied (record talk { unanswered = us }) place body head) shows ∙ ap (λ (t : List ℕ). Ok (record talk { unanswered = us }, t)) line
 

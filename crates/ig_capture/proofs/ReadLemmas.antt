@@ -26,10 +26,10 @@ settled_pieces : (x : Read) (second : List ℕ) → ((settled (and_then x (λ r.
     × ((settled (and_then x (λ r. read_bytes r second))).1 ≡ (settled x).1 ++ (fed (settled x).0 second).1)
 settled_pieces (Err why, text) second = (refl, sym (append-nil (text ++ wrong_line why)))
 settled_pieces (Ok r, text) second = after (read_bytes r second)
-    where
-      after : (y : Read) → ((settled (y.0, text ++ y.1)).0 ≡ (settled y).0) × ((settled (y.0, text ++ y.1)).1 ≡ text ++ (settled y).1)
-      after (Ok later, more) = (refl, refl)
-      after (Err why, more) = (refl, append_assoc text more (wrong_line why))
+  where
+    after : (y : Read) → ((settled (y.0, text ++ y.1)).0 ≡ (settled y).0) × ((settled (y.0, text ++ y.1)).1 ≡ text ++ (settled y).1)
+    after (Ok later, more) = (refl, refl)
+    after (Err why, more) = (refl, append_assoc text more (wrong_line why))
 
 pub feeds_compose : (s : State) (first second : List ℕ) → FeedsCompose s first second
 feeds_compose (Stopped why) first second = record { state = refl; text = refl }

@@ -65,7 +65,7 @@ pub first_taken : (us : Unanswered) (es ds fs : Entries) (id : ℤ) (first next 
     → others ≡ next ∷ later → all ≡ first ∷ others → Changes es ds id None → Changes ds fs id (Some others) → taken id us ≡ Some (first, from_entries fs)
 first_taken us es ds fs id first next later all others is some rest whole out in_again =
     let here : get us id ≡ Some (first ∷ (next ∷ later)) =
-        ap (λ (m : Unanswered). get m id) (sym is) ∙ get_entries int_cmp int_cmp_total es id ∙ sym some ∙ ap Some whole ∙ ap (λ (o : Operations). Some (first ∷ o)) rest in
+    ap (λ (m : Unanswered). get m id) (sym is) ∙ get_entries int_cmp int_cmp_total es id ∙ sym some ∙ ap Some whole ∙ ap (λ (o : Operations). Some (first ∷ o)) rest in
     ap (taken_first id us) here
     ∙ ap (λ (m : Unanswered). Some (first, m)) (ap (λ (m : Unanswered). insert m id (next ∷ later)) (sym is) ∙ ap (insert (from_entries es) id) (sym rest)
     ∙ sym (added es fs id others (changed_again es ds fs id others out in_again)))

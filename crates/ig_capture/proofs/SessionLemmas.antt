@@ -57,7 +57,7 @@ pub shows_at : (old grown : List Session) (n : ℕ) (server : Bool) (bytes : Lis
 shows_at old grown n server bytes s s' lines lines' result is within this shows =
     let here : s ≡ session_at n old = this ∙ sym (at_index n grown) ∙ ap (session_at n) is ∙ at_added n (suc n - length old) old in
     let after : with_session n s' old ≡ slice_set grown n s' =
-        sym (with_added n (suc n - length old) s' old refl) ∙ ap (with_session n s') (sym is) ∙ set_index n s' grown within in
+    sym (with_added n (suc n - length old) s' old refl) ∙ ap (with_session n s') (sym is) ∙ set_index n s' grown within in
     subst (λ (l : List Session). ShowsLines (hear_at old n server bytes) l lines lines' result) after
     (shows_with (hear_session n (session_at n old) server bytes) (λ t. with_session n t old) s' lines lines' result
     (subst (λ (t : Session). ShowsLines (hear_session n t server bytes) s' lines lines' result) here shows))

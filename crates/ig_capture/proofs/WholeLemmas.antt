@@ -100,7 +100,6 @@ by_number r field place (Some n) f rs is none each =
 
 module _ (later : ℕ → List ℕ → Records) (fuel : ℕ)
     (reads_later : (place : ℕ) (ss : List state.Session) (s : List ℕ) → length s ≤ fuel → ReadsRecords (read_bytes (at_field Side place ss) s) ss (later place s)) where
-
   -- its bytes
   reads_bytes : (server : Bool) (session n place : ℕ) (ss : List state.Session) (s : List ℕ) → 1 ≤ n → length s ≤ fuel
       → ReadsRecords (read_bytes (at_field (Bytes server session n n) place ss) s) ss (bytes_from later place server session n s)
@@ -111,9 +110,9 @@ module _ (later : ℕ → List ℕ → Records) (fuel : ℕ)
         | inl short ↦
             let all : take (suc k) (b ∷ s) ≡ b ∷ s = take_all (suc k) (b ∷ s) (omega (arith, short)) in
             let rest : bytes_from later place server session (suc k) (b ∷ s) ≡ after_piece (record { server = server; session = session; bytes = b ∷ s }) (wrong_at place) =
-                ap (λ (l : List ℕ). after_piece (record { server = server; session = session; bytes = l }) (if nat_lt (suc (length s)) (suc k) then wrong_at place else later (place + suc k) (drop (suc k) (b ∷ s)))) all
-                ∙ ap (λ (q : Records). after_piece (record { server = server; session = session; bytes = b ∷ s }) q)
-                (cond-true (nat_lt (suc (length s)) (suc k)) (wrong_at place) (later (place + suc k) (drop (suc k) (b ∷ s))) (lt-ltb _ _ short)) in
+            ap (λ (l : List ℕ). after_piece (record { server = server; session = session; bytes = l }) (if nat_lt (suc (length s)) (suc k) then wrong_at place else later (place + suc k) (drop (suc k) (b ∷ s)))) all
+            ∙ ap (λ (q : Records). after_piece (record { server = server; session = session; bytes = b ∷ s }) q)
+            (cond-true (nat_lt (suc (length s)) (suc k)) (wrong_at place) (later (place + suc k) (drop (suc k) (b ∷ s))) (lt-ltb _ _ short)) in
             let run = read_run server session (suc k) (suc k) (at_field Side place ss) b s (omega (arith, short)) in
             subst (λ (q : Records). ReadsRecords (read_bytes (at_field (Bytes server session (suc k) (suc k)) place ss) (b ∷ s)) ss q) (sym rest)
             (subst (λ (x : Read). ReadsRecords x ss (after_piece (record { server = server; session = session; bytes = b ∷ s }) (wrong_at place))) (sym run)
@@ -123,21 +122,21 @@ module _ (later : ℕ → List ℕ → Records) (fuel : ℕ)
             (record { text = refl; agrees = refl }))))
         | inr long ↦
             let rest : bytes_from later place server session (suc k) (b ∷ s) ≡ after_piece (record { server = server; session = session; bytes = b ∷ take k s }) (later (place + suc k) (drop k s)) =
-                ap (λ (q : Records). after_piece (record { server = server; session = session; bytes = b ∷ take k s }) q)
-                (cond-false (nat_lt (suc (length s)) (suc k)) (wrong_at place) (later (place + suc k) (drop k s)) (le-ltb _ _ long)) in
+            ap (λ (q : Records). after_piece (record { server = server; session = session; bytes = b ∷ take k s }) q)
+            (cond-false (nat_lt (suc (length s)) (suc k)) (wrong_at place) (later (place + suc k) (drop k s)) (le-ltb _ _ long)) in
             let size : length (take k s) ≡ k = length-take-le k s (omega (arith, long)) in
             let whole : b ∷ s ≡ (b ∷ take k s) ++ drop k s = ap (λ (l : List ℕ). b ∷ l) (sym (take-append-drop k s)) in
             let run = read_run server session (suc k) (suc k) (at_field Side place ss) b (take k s) (omega (arith, size)) in
             let read : read_bytes (at_field (Bytes server session (suc k) (suc k)) place ss) (b ∷ s) ≡ and_then (hear_at ss session server (b ∷ take k s)) (λ heard. read_bytes (at_field Side (place + suc k) heard) (drop k s)) =
-                ap (read_bytes (at_field (Bytes server session (suc k) (suc k)) place ss)) whole
-                ∙ read_pieces (at_field (Bytes server session (suc k) (suc k)) place ss) (b ∷ take k s) (drop k s)
-                ∙ ap (λ (x : Read). and_then x (λ next. read_bytes next (drop k s))) run
-                ∙ assoc (hear_at ss session server (b ∷ take k s)) (left_after server session (suc k) (suc k) (suc (length (take k s))) (at_field Side place ss)) (λ next. read_bytes next (drop k s))
-                ∙ same_next (hear_at ss session server (b ∷ take k s)) (λ heard. and_then (left_after server session (suc k) (suc k) (suc (length (take k s))) (at_field Side place ss) heard) (λ next. read_bytes next (drop k s)))
-                (λ heard. read_bytes (at_field Side (place + suc k) heard) (drop k s))
-                (λ heard. ap (λ (q : Reading). read_bytes q (drop k s))
-                (cond-false (nat_lt (suc (length (take k s))) (suc k)) (in_bytes server session (suc k) (suc k - suc (length (take k s))) (at_field Side place heard)) (next_field (at_field Side place heard) Side (suc k)) (le-ltb _ _ (omega (arith, size)))
-                ∙ next_at (at_field Side place heard) Side place (suc k) refl)) in
+            ap (read_bytes (at_field (Bytes server session (suc k) (suc k)) place ss)) whole
+            ∙ read_pieces (at_field (Bytes server session (suc k) (suc k)) place ss) (b ∷ take k s) (drop k s)
+            ∙ ap (λ (x : Read). and_then x (λ next. read_bytes next (drop k s))) run
+            ∙ assoc (hear_at ss session server (b ∷ take k s)) (left_after server session (suc k) (suc k) (suc (length (take k s))) (at_field Side place ss)) (λ next. read_bytes next (drop k s))
+            ∙ same_next (hear_at ss session server (b ∷ take k s)) (λ heard. and_then (left_after server session (suc k) (suc k) (suc (length (take k s))) (at_field Side place ss) heard) (λ next. read_bytes next (drop k s)))
+            (λ heard. read_bytes (at_field Side (place + suc k) heard) (drop k s))
+            (λ heard. ap (λ (q : Reading). read_bytes q (drop k s))
+            (cond-false (nat_lt (suc (length (take k s))) (suc k)) (in_bytes server session (suc k) (suc k - suc (length (take k s))) (at_field Side place heard)) (next_field (at_field Side place heard) Side (suc k)) (le-ltb _ _ (omega (arith, size)))
+            ∙ next_at (at_field Side place heard) Side place (suc k) refl)) in
             subst (λ (q : Records). ReadsRecords (read_bytes (at_field (Bytes server session (suc k) (suc k)) place ss) (b ∷ s)) ss q) (sym rest)
             (subst (λ (x : Read). ReadsRecords x ss (after_piece (record { server = server; session = session; bytes = b ∷ take k s }) (later (place + suc k) (drop k s)))) (sym read)
             (first_then (hear_at ss session server (b ∷ take k s)) (λ heard. read_bytes (at_field Side (place + suc k) heard) (drop k s)) (λ heard. hear_pieces heard (later (place + suc k) (drop k s)).pieces)

@@ -92,8 +92,10 @@ asked_operation code (Err fault) = None
 
 abbrev pub request_step : Talk → Version → List ℕ → Step
 request_step talk v body =
-    Ok (record talk { unanswered = with_request (id_in body) (asked_operation (operation_in body) (request_in v body)) talk.unanswered },
-        scalar_text i64 (id_in body) ++ space ∷ asked_text (request_in v body))
+    Ok (
+      record talk { unanswered = with_request (id_in body) (asked_operation (operation_in body) (request_in v body)) talk.unanswered },
+      scalar_text i64 (id_in body) ++ space ∷ asked_text (request_in v body),
+    )
 
 abbrev pub client_message : Talk → Phase → ℕ → List ℕ → Step
 client_message talk Fresh place body = hello_step talk place body

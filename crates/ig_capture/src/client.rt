@@ -117,12 +117,7 @@ impl Talk {
     }
 
     /// A request.
-    fn hear_request(
-        &mut self,
-        version: Version,
-        body: &[u8],
-        text: &mut Octets,
-    ) -> Result<(), Stop>
+    fn hear_request(&mut self, version: Version, body: &[u8], text: &mut Octets) -> Result<(), Stop>
         requires long { 10 ≤ length body.now }
         requires short { length body.now < 2 ^ 31 }
         requires empty { text.old ≡ [] }

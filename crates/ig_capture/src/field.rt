@@ -8,9 +8,14 @@ pub(crate) enum Field {
     /// The side of a record.
     Side,
     /// Its session.
-    Session { server: bool },
+    Session {
+        server: bool,
+    },
     /// The number of its bytes.
-    Count { server: bool, session: u32 },
+    Count {
+        server: bool,
+        session: u32,
+    },
     /// Its bytes, of which some are left.
     Bytes {
         server: bool,

@@ -90,7 +90,14 @@ impl Reading {
             return Ok(1);
         };
         let len = piece.len().min(left as usize);
-        hear_at(self.alloc, session, server, &piece[..len], &mut self.sessions, lines)?;
+        hear_at(
+            self.alloc,
+            session,
+            server,
+            &piece[..len],
+            &mut self.sessions,
+            lines,
+        )?;
         self.fewer(server, session, count, left, len as u32);
         Ok(len)
     }

@@ -51,7 +51,6 @@ decoded_none source sink r state is going = record {
 
 module _ (cuttings : (s : State) (first second : List ℕ) → FeedsCompose s first second) (texts : (capture : List ℕ) → GivesText capture) (lines : (capture : List ℕ) → GivesLines capture)
     (source s1 : SourceState) (sink k1 : SinkState) (old : State) (taken : ℕ) (so : DecodedSoFar source s1 sink k1 old taken) where
-
   -- the state and the text after one more piece
   piece_state : (piece : List ℕ) → (fed fresh_state (so.capture ++ piece)).0 ≡ (fed old piece).0
   piece_state piece = (cuttings fresh_state so.capture piece).state ∙ ap (λ (s : State). (fed s piece).0) so.state_is

@@ -65,11 +65,7 @@ fn finish<K: Sink>(capture: Capture, text: &mut Octets, sink: &mut K) -> DecodeE
 }
 
 /// Writes the text of the capture that the source gives: of each piece when it was read.
-pub(crate) fn decode<S: Source, K: Sink>(
-    alloc: Global,
-    source: &mut S,
-    sink: &mut K,
-) -> DecodeEnd
+pub(crate) fn decode<S: Source, K: Sink>(alloc: Global, source: &mut S, sink: &mut K) -> DecodeEnd
     ensures { Decodes (S.source source.old) (S.source source.new) (K.sink sink.old) (K.sink sink.new) result }
 {
     let Ok(mut buf) = vec![in alloc; 0u8; PIECE] else {

@@ -31,12 +31,7 @@ fn names_of(alloc: Global, words: &[String]) -> Result<Vec<Text>, NoMemory>
 }
 
 /// Serves one session with the caches of the names in `pipe NAME ..`.
-fn pipe<S: Source, K: Sink>(
-    alloc: Global,
-    words: &[String],
-    source: &mut S,
-    sink: &mut K,
-) -> u8
+fn pipe<S: Source, K: Sink>(alloc: Global, words: &[String], source: &mut S, sink: &mut K) -> u8
     ensures { RunsPipeWords (map string_bytes words.now) (S.source source.old) (S.source source.new)
         (K.sink sink.old) (K.sink sink.new) result }
 {
