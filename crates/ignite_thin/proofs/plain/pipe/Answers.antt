@@ -3,9 +3,9 @@ use Rattle.ig_caches.specs.PlainCaches.{PlainCaches, fresh_caches}
 use Rattle.ig_caches.specs.CachesView.{plain_caches}
 use Rattle.ig_caches.specs.Starts.{CanStart, IsStartFault}
 use Rattle.ig_session.specs.StandsAlone.{StandsAlone}
-use Rattle.ignite_thin.specs.Plain.{RunsPipe, RunsPlain}
+use Rattle.ignite_thin.specs.Plain.{RunsPipe, RunsPipeWords}
 use Rattle.ignite_thin.proofs.PlainLemmas.{named, not_started, pipe_none, pipe_runs}
-use Rattle.ignite_thin.proofs.plain.run_plain.Goals as goal
+use Rattle.ignite_thin.proofs.plain.pipe.Goals as goal
 
 pub returns-in_default : goal.returns-in_default
 returns-in_default g c = subst (λ (n : Option (List (List ℕ))). RunsPipe n (g.S.Source.source c.args.source.now) (g.S.Source.source c.args.source.now) (g.K.Sink.sink c.args.sink.now) (g.K.Sink.sink c.args.sink.now) 1) c.in_default.ensures
@@ -19,7 +19,7 @@ pub returns-in-Err : goal.returns-in-Err
 returns-in-Err g c =
     let fault : IsStartFault (map string_bytes c.in-Some.names.now) c.in-Err.fault = subst (λ (n : List (List ℕ)). IsStartFault n c.in-Err.fault) c.in-Ok.ensures c.in-Err.ensures.fault in
     let runs = not_started (map string_bytes c.args.words.now) (map string_bytes c.in-Some.names.now) (g.S.Source.source c.args.source.now) (g.K.Sink.sink c.args.sink.now) c.in-Err.fault c.in-Some.ensures fault in
-    subst (λ (n : ℕ). RunsPlain (map string_bytes c.args.words.now) (g.S.Source.source c.args.source.now) (g.S.Source.source c.args.source.now) (g.K.Sink.sink c.args.sink.now) (g.K.Sink.sink c.args.sink.now) n) (sym c.start_status.ensures) runs
+    subst (λ (n : ℕ). RunsPipeWords (map string_bytes c.args.words.now) (g.S.Source.source c.args.source.now) (g.S.Source.source c.args.source.now) (g.K.Sink.sink c.args.sink.now) (g.K.Sink.sink c.args.sink.now) n) (sym c.start_status.ensures) runs
 
 pub returns-in-Ok-start : goal.returns-in-Ok-start
 returns-in-Ok-start g c =

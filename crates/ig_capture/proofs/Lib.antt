@@ -1,0 +1,16 @@
+mod AskLemmas
+mod CaptureLemmas
+mod ContentLemmas
+mod CutLemmas
+mod FrameLemmas
+mod FrontLemmas
+mod HeadLemmas
+mod HearLemmas
+mod LoopLemmas
+mod MessageLemmas
+mod OperationLemmas
+mod ReadLemmas
+mod RequestLemmas
+mod SaidLemmas
+mod SessionLemmas
+mod WholeLemmas

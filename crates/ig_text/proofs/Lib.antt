@@ -1,0 +1,17 @@
+pub mod ReadsLemmas
+pub mod NumberLemmas
+pub mod HexLemmas
+pub mod TokenLemmas
+pub mod RefusalLemmas
+pub mod ObjectTextLemmas
+pub mod LevelLemmas
+pub mod LoopLemmas
+pub mod WholeLemmas
+pub mod BoundLemmas
+pub mod ReaderLoopLemmas
+pub mod ReaderStopLemmas
+pub mod DescriptionLemmas
+pub mod OrderLemmas
+pub mod ValueLemmas
+pub mod WriteLemmas
+pub mod EntryLemmas
