@@ -32,21 +32,33 @@ removed es fs id changes = same_map int_cmp_total exact_signed _ _ (λ q.
 pub added : (es fs : Entries) (id : ℤ) (w : Operations) → Changes es fs id (Some w) → from_entries {R = int_cmp} fs ≡ insert (from_entries es) id w
 added es fs id w changes = inserted int_cmp int_cmp_total exact_signed es fs id w changes
 
--- an entry that is taken out and put in again
-changes_twice : (b : Bool) (w : Operations) (o : Option Operations) → cond b (Some w) (cond b None o) ≡ cond b (Some w) o
-changes_twice true w o = refl
-changes_twice false w o = refl
+-- an entry that is changed and then put in again
+changes_twice : (b : Bool) (v : Option Operations) (w : Operations) (o : Option Operations) → cond b (Some w) (cond b v o) ≡ cond b (Some w) o
+changes_twice true v w o = refl
+changes_twice false v w o = refl
 
-pub changed_again : (es ds fs : Entries) (id : ℤ) (w : Operations) → Changes es ds id None → Changes ds fs id (Some w) → Changes es fs id (Some w)
-changed_again es ds fs id w out in_again q = in_again q ∙ ap (cond (is_at (int_cmp id) q) (Some w)) (out q) ∙ changes_twice (is_at (int_cmp id) q) w (found es q)
+pub changed_again : (es ds fs : Entries) (id : ℤ) (v : Option Operations) (w : Operations) → Changes es ds id v → Changes ds fs id (Some w) → Changes es fs id (Some w)
+changed_again es ds fs id v w first again q = again q ∙ ap (cond (is_at (int_cmp id) q) (Some w)) (first q) ∙ changes_twice (is_at (int_cmp id) q) v w (found es q)
 
--- a request after those with its identifier
-pub request_added : (us : Unanswered) (es ds fs : Entries) (id : ℤ) (operation : Option Operation) (w : Operations) → from_entries es ≡ us
-    → Changes es ds id None → Changes ds fs id (Some w) → w ≡ unwrap_or (found es id) [] ++ operation ∷ [] → from_entries {R = int_cmp} fs ≡ with_request id operation us
-request_added us es ds fs id operation w is out in_again whole =
-    added es fs id w (changed_again es ds fs id w out in_again)
+-- the operations of an identifier are put in
+request_put : (us : Unanswered) (es fs : Entries) (id : ℤ) (operation : Option Operation) (w : Operations) → from_entries es ≡ us → Changes es fs id (Some w)
+    → w ≡ unwrap_or (found es id) [] ++ operation ∷ [] → from_entries {R = int_cmp} fs ≡ with_request id operation us
+request_put us es fs id operation w is put whole =
+    added es fs id w put
     ∙ ap (insert (from_entries es) id) (whole ∙ ap (λ (o : Option Operations). unwrap_or o [] ++ operation ∷ []) (sym (get_entries int_cmp int_cmp_total es id)))
     ∙ ap (λ (m : Unanswered). insert m id (unwrap_or (get m id) [] ++ operation ∷ [])) is
+
+-- the first request with its identifier
+pub first_added : (us : Unanswered) (es fs : Entries) (id : ℤ) (operation : Option Operation) (only : Operations) → from_entries es ≡ us → None ≡ found es id
+    → only ≡ operation ∷ [] → Changes es fs id (Some only) → from_entries {R = int_cmp} fs ≡ with_request id operation us
+first_added us es fs id operation only is none one put =
+    request_put us es fs id operation only is put (one ∙ ap (λ (o : Option Operations). unwrap_or o [] ++ operation ∷ []) none)
+
+-- a request after those with its identifier
+pub request_added : (us : Unanswered) (es ds fs : Entries) (id : ℤ) (operation : Option Operation) (only before w : Operations) → from_entries es ≡ us → Some before ≡ found es id
+    → w ≡ before ++ operation ∷ [] → Changes es ds id (Some only) → Changes ds fs id (Some w) → from_entries {R = int_cmp} fs ≡ with_request id operation us
+request_added us es ds fs id operation only before w is some more first again =
+    request_put us es fs id operation w is (changed_again es ds fs id (Some only) w first again) (more ∙ ap (λ (o : Option Operations). unwrap_or o [] ++ operation ∷ []) some)
 
 -- no request has the identifier
 pub none_taken : (us : Unanswered) (es : Entries) (id : ℤ) → from_entries es ≡ us → None ≡ found es id → taken id us ≡ None
@@ -68,4 +80,4 @@ first_taken us es ds fs id first next later all others is some rest whole out in
     ap (λ (m : Unanswered). get m id) (sym is) ∙ get_entries int_cmp int_cmp_total es id ∙ sym some ∙ ap Some whole ∙ ap (λ (o : Operations). Some (first ∷ o)) rest in
     ap (taken_first id us) here
     ∙ ap (λ (m : Unanswered). Some (first, m)) (ap (λ (m : Unanswered). insert m id (next ∷ later)) (sym is) ∙ ap (insert (from_entries es) id) (sym rest)
-    ∙ sym (added es fs id others (changed_again es ds fs id others out in_again)))
+    ∙ sym (added es fs id others (changed_again es ds fs id None others out in_again)))

@@ -45,9 +45,8 @@ impl Unanswered {
     pub(crate) fn add(&mut self, id: i64, operation: Option<Operation>) -> Result<(), NoMemory>
         ensures { OnOk result (self.new ≡ with_request id operation self.old) }
     {
-        let Some(mut waiting) = self.requests.remove(&id) else {
-            let waiting = Waiting::new(self.alloc, operation);
-            self.requests.insert(id, waiting)?;
+        let only = Waiting::new(self.alloc, operation);
+        let Some(mut waiting) = self.requests.insert(id, only)? else {
             return Ok(());
         };
         waiting.add(operation)?;
