@@ -15,7 +15,7 @@ use Rattle.ig_capture.specs.CaptureLaws.{FeedsCompose, GivesText, GivesLines, an
 use Rattle.ignite_thin.specs.declared.decode_end.DecodeEnd.{DecodeEnd}
 use Rattle.ignite_thin.specs.declared.decode_end.DecodeEnd.TheVariants as ends
 use Rattle.ignite_thin.specs.Statuses.{status_of_decode}
-use Rattle.ignite_thin.specs.Decodes.{WritesText, Decodes, IsWrongAlready, IsDecodeCaused, CompletesDecode, TakesText, SendsText, EndsTextAs}
+use Rattle.ignite_thin.specs.Decodes.{WritesText, Decodes, IsWrongAlready, IsDecodeCaused, CompletesDecode, RunsDecode, TakesText, SendsText, EndsText, EndsTextAs}
 
 -- the capture that was taken and the text that was written, where nothing stopped yet
 pub record DecodedSoFar (source source' : SourceState) (sink sink' : SinkState) (state : State) (taken : ℕ) : Type 0 where
@@ -68,14 +68,14 @@ module _ (cuttings : (s : State) (first second : List ℕ) → FeedsCompose s fi
     text = so.text ++ text;
     takes = SourceAdvances-then so.takes took.takes;
     writes = SinkAdvances-then so.writes sent;
-    size = length-append so.capture took.piece ∙ ap (λ n. n + length took.piece) so.size ∙ sym took.as.0;
-    limit = took.as.2;
-    state_is = piece_state took.piece ∙ ap (λ x. x.0) took.as.4;
-    text_is = piece_text took.piece ∙ ap (λ x. so.text ++ x.1) took.as.4;
-    going = took.as.5;
-    reads = took.as.3.counts ∙ so.reads;
+    size = length-append so.capture took.piece ∙ ap (λ n. n + length took.piece) so.size ∙ sym took.does.0;
+    limit = took.does.2;
+    state_is = piece_state took.piece ∙ ap (λ x. x.0) took.does.4;
+    text_is = piece_text took.piece ∙ ap (λ x. so.text ++ x.1) took.does.4;
+    going = took.does.5;
+    reads = took.does.3.counts ∙ so.reads;
     sends = counts ∙ so.sends;
-    still = inr took.as.3.ended;
+    still = inr took.does.3.ended;
   }
 
   -- the whole text, of what was taken until now
@@ -258,6 +258,40 @@ module _ (cuttings : (s : State) (first second : List ℕ) → FeedsCompose s fi
       subst (λ (e : DecodeEnd). Decodes source s2 sink k2 e) (sym named)
       (sent_first so.capture s2 (none_taken s2 piece takes none) (omega (arith, so.size, so.limit)) text (whole_text ∙ ap (λ e. so.text ++ e.1) is) k2 first)
 
+  -- the text of a piece that was taken could not be written whole
+  pub decoded_unsent : (new : State) (s2 : SourceState) (k2 : SinkState) (text : List ℕ) (taken' : ℕ) → TakesText old new s1 s2 taken text (Ok taken')
+      → SentFirst text k1 k2 → Decodes source s2 sink k2 ends.WriteFault
+  decoded_unsent new s2 k2 text taken' took first = record {
+    capture = all;
+    text = so.text ++ first.prefix;
+    takes = SourceAdvances-then so.takes took.takes;
+    writes = SinkAdvances-then so.writes first.gets;
+    limit = omega (arith, so.size, took.does.0, took.does.2, length-append so.capture took.piece);
+    says = (
+      first.missing ++ fin,
+      (texts all).text ∙ ap (λ (t : List ℕ). t ++ fin) (piece_text took.piece) ∙ ap (λ x. (so.text ++ x.1) ++ fin) took.does.4
+          ∙ ap (λ (l : List ℕ). (so.text ++ l) ++ fin) first.cut ∙ ap (λ (l : List ℕ). l ++ fin) (sym (append_assoc so.text first.prefix first.missing))
+          ∙ append_assoc (so.text ++ first.prefix) first.missing fin,
+    );
+    caused = write_failed k2 first.fault;
+  }
+    where
+      all : List ℕ
+      all = so.capture ++ took.piece
+
+      fin : List ℕ
+      fin = (finished (fed fresh_state all).0).1
+
+  -- nothing more can be taken
+  pub decoded_stop : (new : State) (s2 : SourceState) (text : List ℕ) (end : DecodeEnd) → TakesText old new s1 s2 taken text (Err end) → (end ≡ ends.Ended → ⊥) → (end ≡ ends.Malformed → ⊥)
+      → Decodes source s2 sink k1 end
+  decoded_stop new s2 text ends.Ended took goes_on right = absurd (goes_on refl)
+  decoded_stop new s2 text ends.Malformed took goes_on right = absurd (right refl)
+  decoded_stop new s2 text ends.ReadFault took goes_on right = decoded_unread s2 took.piece took.takes took.does.1 took.does.0
+  decoded_stop new s2 text ends.WriteFault took goes_on right = absurd took.does
+  decoded_stop new s2 text ends.ByteLimit took goes_on right = subst (λ (s : SourceState). Decodes source s sink k1 ends.ByteLimit) (sym took.does.1) (decoded_limit took.does.0)
+  decoded_stop new s2 text ends.NoMemory took goes_on right = decoded_no_memory s2 took.piece took.takes took.does
+
   -- out of memory for what the end adds
   pub decoded_end_no_memory : (s2 : SourceState) (k2 : SinkState) (piece : List ℕ) → SourceAdvances s1 s2 piece → piece ≡ [] → SinkAdvances k1 k2 [] → Decodes source s2 sink k2 ends.NoMemory
   decoded_end_no_memory s2 k2 piece takes none sent = record {
@@ -269,6 +303,21 @@ module _ (cuttings : (s : State) (first second : List ℕ) → FeedsCompose s fi
     says = ((finished old).1, whole_text ∙ ap (λ (t : List ℕ). t ++ (finished old).1) (sym (append-nil so.text)));
     caused = tt;
   }
+
+  -- the end that `finish` gives
+  pub decoded_finish : (new : State) (s2 : SourceState) (k2 : SinkState) (text : List ℕ) (end : DecodeEnd) → TakesText old new s1 s2 taken text (Err ends.Ended) → EndsText new k1 k2 end → Decodes source s2 sink k2 end
+  decoded_finish new s2 k2 text end took gives = by_end end (subst (λ (s : State). EndsText s k1 k2 end) took.does.2 gives)
+    where
+      shown : (e : DecodeEnd) → EndsTextAs (finished old) k1 k2 e → Decodes source s2 sink k2 e
+      shown e = decoded_end s2 k2 took.piece (finished old) e took.takes took.does.1 took.does.0 refl
+
+      by_end : (e : DecodeEnd) → EndsText old k1 k2 e → Decodes source s2 sink k2 e
+      by_end ends.Ended sent = shown ends.Ended sent
+      by_end ends.Malformed sent = shown ends.Malformed sent
+      by_end ends.ReadFault sent = shown ends.ReadFault sent
+      by_end ends.WriteFault sent = shown ends.WriteFault sent
+      by_end ends.ByteLimit sent = shown ends.ByteLimit sent
+      by_end ends.NoMemory sent = decoded_end_no_memory s2 k2 took.piece took.takes took.does.1 sent
 
 -- ---- before anything was taken
 
@@ -293,3 +342,12 @@ completes source source' sink sink' ends.ReadFault d ended reads sends right = a
 completes source source' sink sink' ends.WriteFault d ended reads sends right = absurd (sends d.caused.rose)
 completes source source' sink sink' ends.ByteLimit d ended reads sends right =
     let still : true ≡ false = sym ended ∙ d.caused.1.ended in absurd (cc)
+
+-- the status that says how it ended
+pub runs_decode : (source source' : SourceState) (sink sink' : SinkState) (end : DecodeEnd) (status : ℕ) → Decodes source source' sink sink' end → status ≡ status_of_decode end → RunsDecode source source' sink sink' status
+runs_decode source source' sink sink' end status d is = record {
+  end = end;
+  decodes = d;
+  status_is = is;
+  completes = subst (CompletesDecode source source' sink sink' d.capture) (sym is) (completes source source' sink sink' end d);
+}

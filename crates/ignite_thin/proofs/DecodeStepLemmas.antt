@@ -7,7 +7,7 @@ use Rattle.ig_link.specs.ReadsAs.{ReadSome, ReadEnd, ReadFault}
 use Rattle.ig_link.specs.WritesAs.{SentPart}
 use Rattle.ig_link.proofs.StateLemmas.{SourceAdvances-nothing}
 use Rattle.ig_wire.specs.Limits.{most_session_bytes}
-use Rattle.ig_session.specs.Serving.{HasEnded}
+use Rattle.ig_session.specs.Serving.{HasEnded, SentFirst}
 use Rattle.ig_capture.specs.declared.fault.CaptureBad.{CaptureBad}
 use Rattle.ig_capture.specs.declared.fault.CaptureFault.{CaptureFault}
 use Rattle.ig_capture.specs.declared.fault.CaptureFault.TheVariants as fault
@@ -29,7 +29,7 @@ pub text_at_end : (s : State) (source source' : SourceState) (taken : ℕ) (text
 text_at_end s source source' taken text none end = record {
   piece = [];
   takes = end.advances;
-  as = (
+  does = (
     record { ended = end.ended; counts = end.counts; whole = λ holds. none_left source.left source'.left end.advances.left (end.whole holds) },
     refl,
     refl,
@@ -41,11 +41,11 @@ pub text_at_fault : (s : State) (source source' : SourceState) (taken : ℕ) (te
 text_at_fault s source source' taken text failed = record {
   piece = [];
   takes = failed.advances;
-  as = (record { ended = failed.is_open; rose = failed.rose; holds_not = failed.holds_not }, refl);
+  does = (record { ended = failed.is_open; rose = failed.rose; holds_not = failed.holds_not }, refl);
 }
 
 pub text_at_limit : (s : State) (source : SourceState) (taken : ℕ) (text : List ℕ) → taken ≡ most_session_bytes → TakesText s s source source taken text (Err ends.ByteLimit)
-text_at_limit s source taken text all = record { piece = []; takes = SourceAdvances-nothing source; as = (all, refl, refl) }
+text_at_limit s source taken text all = record { piece = []; takes = SourceAdvances-nothing source; does = (all, refl, refl) }
 
 -- what the answer of a feed says of the state after it
 goes_on : (s : State) → Ok tt ≡ answer_of s → (r : Reading) × (s ≡ Going r)
@@ -72,7 +72,7 @@ module _ (old new : State) (source source' : SourceState) (taken n : ℕ) (buf l
       record {
         piece = take n buf;
         takes = some.advances;
-        as = (
+        does = (
           ap (λ (k : ℕ). taken + k) (sym size),
           omega (arith, some.some, size),
           within,
@@ -88,7 +88,7 @@ module _ (old new : State) (source source' : SourceState) (taken n : ℕ) (buf l
       record {
         piece = take n buf;
         takes = some.advances;
-        as = (
+        does = (
           record { ended = some.is_open; counts = some.counts },
           omega (arith, size, within),
           sym (fed_as.0.text ∙ ap (λ (l : List ℕ). l ++ (fed old (take n buf)).1) none),
@@ -97,31 +97,32 @@ module _ (old new : State) (source source' : SourceState) (taken n : ℕ) (buf l
       }
 
   pub text_without_memory : TakesText old new source source' taken text (Err ends.NoMemory)
-  text_without_memory = record { piece = take n buf; takes = some.advances; as = omega (arith, size, within) }
+  text_without_memory = record { piece = take n buf; takes = some.advances; does = omega (arith, size, within) }
 
 -- ---- writing a text
 
+-- the first bytes of a text
+pub first_sent : (text : List ℕ) (sink sink' : SinkState) (n : ℕ) → SentPart n sink sink' text → SentFirst text sink sink'
+first_sent text sink sink' n part = record {
+  prefix = take n text;
+  missing = drop n text;
+  cut = sym (take-append-drop n text);
+  gets = part.advances;
+  fault = record { rose = part.rose; holds_not = part.holds_not };
+}
+
 pub sent_part : (text : List ℕ) (sink sink' : SinkState) (n : ℕ) (end : DecodeEnd) → SentPart n sink sink' text → SendsText text sink sink' end ends.WriteFault
-sent_part text sink sink' n end part = inr (
-  record {
-    prefix = take n text;
-    missing = drop n text;
-    cut = sym (take-append-drop n text);
-    gets = part.advances;
-    fault = record { rose = part.rose; holds_not = part.holds_not };
-  },
-  refl,
-)
+sent_part text sink sink' n end part = inr (first_sent text sink sink' n part, refl)
 
 -- ---- the end
 
 ends_as : (s : State) (fin : Result (Unit {0}) CaptureFault × List ℕ) (k1 k2 : SinkState) (end : DecodeEnd) → finished s ≡ fin → (end ≡ ends.NoMemory → ⊥) → EndsTextAs fin k1 k2 end → EndsText s k1 k2 end
-ends_as s fin k1 k2 ends.Ended is never as = subst (λ f. EndsTextAs f k1 k2 ends.Ended) (sym is) as
-ends_as s fin k1 k2 ends.Malformed is never as = subst (λ f. EndsTextAs f k1 k2 ends.Malformed) (sym is) as
-ends_as s fin k1 k2 ends.ReadFault is never as = subst (λ f. EndsTextAs f k1 k2 ends.ReadFault) (sym is) as
-ends_as s fin k1 k2 ends.WriteFault is never as = subst (λ f. EndsTextAs f k1 k2 ends.WriteFault) (sym is) as
-ends_as s fin k1 k2 ends.ByteLimit is never as = subst (λ f. EndsTextAs f k1 k2 ends.ByteLimit) (sym is) as
-ends_as s fin k1 k2 ends.NoMemory is never as = absurd (never refl)
+ends_as s fin k1 k2 ends.Ended is never shows = subst (λ f. EndsTextAs f k1 k2 ends.Ended) (sym is) shows
+ends_as s fin k1 k2 ends.Malformed is never shows = subst (λ f. EndsTextAs f k1 k2 ends.Malformed) (sym is) shows
+ends_as s fin k1 k2 ends.ReadFault is never shows = subst (λ f. EndsTextAs f k1 k2 ends.ReadFault) (sym is) shows
+ends_as s fin k1 k2 ends.WriteFault is never shows = subst (λ f. EndsTextAs f k1 k2 ends.WriteFault) (sym is) shows
+ends_as s fin k1 k2 ends.ByteLimit is never shows = subst (λ f. EndsTextAs f k1 k2 ends.ByteLimit) (sym is) shows
+ends_as s fin k1 k2 ends.NoMemory is never shows = absurd (never refl)
 
 -- a text that was written doesn't end for want of memory
 enough : (text : List ℕ) (k1 k2 : SinkState) (named end : DecodeEnd) → (named ≡ ends.NoMemory → ⊥) → SendsText text k1 k2 named end → end ≡ ends.NoMemory → ⊥

@@ -78,7 +78,7 @@ TakesTextAs (Err ends.NoMemory) old new source source' taken piece text = taken 
 pub record TakesText (old new : State) (source source' : SourceState) (taken : ℕ) (text : List ℕ) (result : Result ℕ DecodeEnd) : Type 0 where
   pub piece : List ℕ
   pub takes : SourceAdvances source source' piece
-  pub as : TakesTextAs result old new source source' taken piece text
+  pub does : TakesTextAs result old new source source' taken piece text
 
 -- the text was written whole, and the end is this one; or its first bytes, and then a write failed
 abbrev pub SendsText : List ℕ → SinkState → SinkState → DecodeEnd → DecodeEnd → Type 0

@@ -80,13 +80,15 @@ pub(crate) fn decode<S: Source, K: Sink>(alloc: Global, source: &mut S, sink: &m
     'pieces: loop {
         match take_piece(&mut capture, source, &mut buf, taken, &mut text) {
             Ok(more) => taken = more,
-            Err(DecodeEnd::Ended) => return finish(capture, &mut text, sink),
-            Err(DecodeEnd::Malformed) => return send_text(&text, sink, DecodeEnd::Malformed),
-            Err(end) => return end,
+            Err(end) => match end {
+                DecodeEnd::Ended => return finish(capture, &mut text, sink),
+                DecodeEnd::Malformed => return send_text(&text, sink, end),
+                _ => return end,
+            },
         }
-        if send_all(sink, text.as_slice()).is_err() {
-            return DecodeEnd::WriteFault;
+        match send_all(sink, text.as_slice()) {
+            Ok(()) => text.clear(),
+            Err(_) => return DecodeEnd::WriteFault,
         }
-        text.clear();
     }
 }
