@@ -8,15 +8,18 @@ use crate::cuts::{put_cuts, put_wrong};
 use crate::fault::{CaptureBad, CaptureFault};
 use crate::field::Field;
 use crate::reading::{Reading, read};
+use crate::texts::emptied;
 use ig_base::{NoMemory, Octets};
 use std::alloc::Global;
 use std::marker::Model;
 
-/// A capture as far as it was fed.
+/// A capture as far as it was fed, with two buffers that are used again.
 #[derive(Drop)]
 pub struct Capture {
     reading: Reading,
     stopped: Option<CaptureFault>,
+    text: Octets,
+    lines: Octets,
 }
 
 impl Model for Capture {
@@ -32,15 +35,22 @@ impl Model for Capture {
 }
 
 /// Reads a piece of a capture, and appends its text: the line of each message that ends in it, and the
-/// line that says what is malformed, if something is. Out of memory, nothing is appended.
-fn show(reading: &mut Reading, piece: &[u8], out: &mut Octets) -> Result<(), CaptureFault>
+/// line that says what is malformed, if something is. Out of memory, nothing is appended. `text` and
+/// `lines` are buffers for the text of a message and for the lines.
+fn show(
+    reading: &mut Reading,
+    piece: &[u8],
+    text: &mut Octets,
+    lines: &mut Octets,
+    out: &mut Octets,
+) -> Result<(), CaptureFault>
     ensures { ShowsPiece reading.old reading.new out.old out.new piece.now result }
 {
-    let mut lines = Octets::empty(reading.alloc);
-    match read(reading, piece, &mut lines) {
+    emptied(reading.alloc, lines);
+    match read(reading, piece, text, lines) {
         Ok(()) => Ok(out.append(lines.as_slice())?),
         Err(CaptureFault::Bad(bad)) => {
-            put_wrong(bad, &mut lines)?;
+            put_wrong(bad, lines)?;
             out.append(lines.as_slice())?;
             Err(CaptureFault::Bad(bad))
         }
@@ -56,6 +66,8 @@ impl Capture {
         Ok(Capture {
             reading: Reading::new(alloc)?,
             stopped: None,
+            text: Octets::empty(alloc),
+            lines: Octets::empty(alloc),
         })
     }
 
@@ -74,7 +86,7 @@ impl Capture {
         if let Some(fault) = self.stopped {
             return Err(fault);
         }
-        match show(&mut self.reading, piece, out) {
+        match show(&mut self.reading, piece, &mut self.text, &mut self.lines, out) {
             Ok(()) => Ok(()),
             Err(fault) => {
                 self.stopped = Some(fault);
@@ -94,11 +106,16 @@ impl Capture {
         ensures finishes { Finishes self out.old out.new result }
         ensures stays { StaysStopped self self out.old out.new result }
     {
-        let Capture { reading, stopped } = self;
+        let Capture {
+            reading,
+            stopped,
+            text: _text,
+            mut lines,
+        } = self;
         if let Some(fault) = stopped {
             return Err(fault);
         }
-        let mut lines = Octets::empty(reading.alloc);
+        lines.clear();
         if let Field::Side = reading.field {
             put_cuts(reading.alloc, &reading.sessions, &mut lines)?;
             out.append(lines.as_slice())?;

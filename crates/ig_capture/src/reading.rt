@@ -75,7 +75,12 @@ impl Reading {
 
     /// Reads the first bytes of a piece, at least one, and appends the lines of the messages that end with
     /// them. Answers how many it read.
-    fn read_some(&mut self, piece: &[u8], lines: &mut Octets) -> Result<usize, CaptureFault>
+    fn read_some(
+        &mut self,
+        piece: &[u8],
+        text: &mut Octets,
+        lines: &mut Octets,
+    ) -> Result<usize, CaptureFault>
         requires { 0 < length piece.now }
         ensures { ReadsSome piece.now self.old self.new lines.old lines.new result }
     {
@@ -96,6 +101,7 @@ impl Reading {
             server,
             &piece[..len],
             &mut self.sessions,
+            text,
             lines,
         )?;
         self.fewer(server, session, count, left, len as u32);
@@ -208,17 +214,19 @@ impl Reading {
     }
 }
 
-/// Reads a piece, and appends the lines of the messages that end with its bytes.
+/// Reads a piece, and appends the lines of the messages that end with its bytes. `text` is a buffer for the
+/// text of a message.
 pub(crate) fn read(
     reading: &mut Reading,
     piece: &[u8],
+    text: &mut Octets,
     lines: &mut Octets,
 ) -> Result<(), CaptureFault>
     ensures { ShowsLines (readings.read_bytes reading.old piece.now) reading.new lines.old lines.new result }
 {
     let mut at = 0;
     'bytes: while at < piece.len() {
-        match reading.read_some(&piece[at..], lines) {
+        match reading.read_some(&piece[at..], text, lines) {
             Ok(len) => at += len,
             Err(fault) => return Err(fault),
         }

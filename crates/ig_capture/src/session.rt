@@ -57,6 +57,7 @@ impl Session {
         number: u32,
         server: bool,
         bytes: &[u8],
+        text: &mut Octets,
         lines: &mut Octets,
     ) -> Result<(), CaptureFault>
         ensures { ShowsLines (sessions.hear_session number self.old server bytes.now)
@@ -64,10 +65,10 @@ impl Session {
     {
         if server {
             self.from_server.feed(bytes)?;
-            hear(number, true, &mut self.from_server, &mut self.talk, lines)
+            hear(number, true, &mut self.from_server, &mut self.talk, text, lines)
         } else {
             self.from_client.feed(bytes)?;
-            hear(number, false, &mut self.from_client, &mut self.talk, lines)
+            hear(number, false, &mut self.from_client, &mut self.talk, text, lines)
         }
     }
 

@@ -17,6 +17,7 @@ pub(crate) fn hear_at(
     server: bool,
     bytes: &[u8],
     sessions: &mut Vec<Session>,
+    text: &mut Octets,
     lines: &mut Octets,
 ) -> Result<(), CaptureFault>
     ensures { ShowsLines (states.hear_at sessions.old.items session server bytes.now)
@@ -24,7 +25,7 @@ pub(crate) fn hear_at(
 {
     let number = session as usize;
     make_room(alloc, number, sessions)?;
-    sessions[number].hear(session, server, bytes, lines)
+    sessions[number].hear(session, server, bytes, text, lines)
 }
 
 /// Makes room for the session of this number, with those before it that said nothing yet.

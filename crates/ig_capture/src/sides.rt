@@ -11,17 +11,19 @@ ghost use Rattle.ig_capture.specs.Talks.{message, least};
 use crate::fault::{CaptureBad, CaptureFault};
 use crate::stop::Stop;
 use crate::talk::Talk;
-use crate::texts::put_line;
+use crate::texts::{emptied, put_line};
 use ig_base::{NoMemory, Octets};
 use ig_frame::{Frames, Next};
 use std::alloc::Global;
 
 /// Appends the line of each whole frame that the stream begins with, up to the first that is malformed.
+/// `text` is a buffer for the text of a message.
 pub(crate) fn hear(
     session: u32,
     server: bool,
     frames: &mut Frames,
     talk: &mut Talk,
+    text: &mut Octets,
     lines: &mut Octets,
 ) -> Result<(), CaptureFault>
     requires limit { frames.old.limit ≡ max_body }
@@ -31,7 +33,7 @@ pub(crate) fn hear(
     ensures limit { frames.new.limit ≡ max_body }
 {
     'frames: loop {
-        match hear_frame(session, server, frames, talk, lines) {
+        match hear_frame(session, server, frames, talk, text, lines) {
             Ok(true) => {}
             Ok(false) => return Ok(()),
             Err(fault) => return Err(fault),
@@ -46,6 +48,7 @@ fn hear_frame(
     server: bool,
     frames: &mut Frames,
     talk: &mut Talk,
+    text: &mut Octets,
     lines: &mut Octets,
 ) -> Result<bool, CaptureFault>
     requires limit { frames.old.limit ≡ max_body }
@@ -63,7 +66,9 @@ fn hear_frame(
                 place,
             }));
         }
-        Next::Frame { place, body } => hear_message(session, server, place, body, talk, lines)?,
+        Next::Frame { place, body } => {
+            hear_message(session, server, place, body, talk, text, lines)?
+        }
     }
     frames.pass(least);
     Ok(true)
@@ -76,6 +81,7 @@ fn hear_message(
     place: u64,
     body: &[u8],
     talk: &mut Talk,
+    text: &mut Octets,
     lines: &mut Octets,
 ) -> Result<(), CaptureFault>
     requires least { least server talk.old.phase ≤ length body.now }
@@ -84,8 +90,8 @@ fn hear_message(
         (step_line session server stream (message talk.old server place body.now))
         (record { stream = stream; talk = talk.new }) lines.old lines.new result }
 {
-    let mut text = Octets::empty(talk.alloc);
-    match talk.hear(server, place, body, &mut text) {
+    emptied(talk.alloc, text);
+    match talk.hear(server, place, body, text) {
         Ok(()) => Ok(put_line(u64::from(session), server, text.as_slice(), lines)?),
         Err(Stop::NoMemory) => Err(CaptureFault::NoMemory),
         Err(Stop::At { place }) => Err(CaptureFault::Bad(CaptureBad::Message {

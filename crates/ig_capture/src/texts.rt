@@ -12,6 +12,21 @@ use ig_base::{NoMemory, Octets};
 use ig_text::PutText;
 use ig_wire::Version;
 use itoa::Buffer;
+use std::alloc::Global;
+
+/// A buffer of more bytes than these is given back when it is emptied.
+const KEPT: usize = 262_144;
+
+/// Empties a buffer that is to be used again, and gives back the room of a large one.
+pub(crate) fn emptied(alloc: Global, buffer: &mut Octets)
+    ensures { buffer.new ≡ [] }
+{
+    if buffer.len() > KEPT {
+        *buffer = Octets::empty(alloc);
+    } else {
+        buffer.clear();
+    }
+}
 
 /// Appends a number in decimal.
 pub(crate) fn put_number(number: u64, out: &mut Octets) -> Result<(), NoMemory>
