@@ -1,2 +1,3 @@
 pub mod ArgumentLemmas
+pub mod LinePlaceLemmas
 pub mod LineLemmas

@@ -62,11 +62,11 @@ wrong_is : {A : Type 0} → (m n : ℕ) → wrong {A = A} m ≡ wrong {A = A} n 
 wrong_is m n e = cc
 
 too_many : {X : Type 0} (R : List ℕ → Read (ℤ × X)) (close : ℕ) (s : List ℕ) (ids : List ℤ) (xs : List X) (behind : List ℕ) (left : ℕ) → length ids ≡ length xs → any_at R close s ≡ Ok (entries ids xs, behind) →
-    (b : Bool) → is_countable xs ≡ b → cond b (done (xs, behind)) (Err (length s)) ≡ Err left → mapped_read apart (items_at R close s) ≡ Err left
+    (b : Bool) → is_countable xs ≡ b → cond b (done {A = List X × List ℕ} (xs, behind)) (Err (length s)) ≡ Err left → mapped_read apart (items_at R close s) ≡ Err left
 too_many R close s ids xs behind left same e true is counted = absurd cc
 too_many {X} R close s ids xs behind left same e false is counted =
     let place : length s ≡ left = wrong_is {A = List X × List ℕ} (length s) left counted in
-    ap (mapped_read apart) (items_are R close s (Ok (entries ids xs, behind)) e) ∙ ap (λ (b : Bool). mapped_read apart (cond b (done (entries ids xs, behind)) (Err (length s)))) (countable_alike ids xs same ∙ is)
+    ap (mapped_read apart) (items_are R close s (Ok (entries ids xs, behind)) e) ∙ ap (λ (b : Bool). mapped_read apart (cond b (done {A = List (ℤ × X) × List ℕ} (entries ids xs, behind)) (Err (length s)))) (countable_alike ids xs same ∙ is)
     ∙ ap (λ (n : ℕ). wrong {A = (List ℤ × List X) × List ℕ} n) place
 
 pub entries_long : {X : Type 0} (R : List ℕ → Read (ℤ × X)) (close : ℕ) (s : List ℕ) (ids : List ℤ) (xs : List X) (behind : List ℕ) (e : ReadError) → length ids ≡ length xs → any_at R close s ≡ Ok (entries ids xs, behind) →

@@ -13,7 +13,7 @@ use Rattle.ig_text.specs.declared.row.Row.TheVariants.{Kind, CompactObject}
 use Rattle.ig_text.specs.Tokens.{colon, comma, equals, minus, quote, backslash, letter_x, open_bracket, close_bracket, open_brace, close_brace, is_bare}
 use Rattle.ig_text.specs.TextOf.{mark}
 use Rattle.ig_text.specs.Words.{word, row_at}
-use Rattle.ig_text.specs.ReadText.{Read, ◌>>=◌, mapped_read, checked_read, mark_at, begins_with, joined_at, is_plain, natural_of, natural_at, signed_at, is_hex, hex_value, pair_at, run_at, is_countable, octets_of, octets_at, truth_at, scalar_at, stamp_at, decimal_at, uuid_at, until_at, next_at, some_at, any_at, items_at, escape_at, char_at, is_text, quoted_at, bits_at, type_at, is_type, head_at, entry_at, named_object, named_at, compact_object, fields_at, compact_at, optional_at, swapped, alone, part_at, content_at, known_at, value_at}
+use Rattle.ig_text.specs.ReadText.{Read, ◌>>=◌, mapped_read, checked_read, mark_at, begins_with, joined_at, is_plain, natural_of, natural_at, signed_at, is_hex, hex_value, pair_at, run_at, is_countable, octets_of, octets_at, truth_at, scalar_at, stamp_at, decimal_at, uuid_at, until_at, next_at, some_at, any_at, items_at, escape_at, char_at, is_text, quoted_at, bits_at, type_at, is_type, head_at, entry_at, named_object, named_at, compact_object, fields_at, compact_at, optional_at, swapped, alone, part_at, content_at, known_at, value_at, text_at}
 use Rattle.ig_value.specs.Objects.{kept_flags}
 use Rattle.ig_text.proofs.ReadsLemmas.{done}
 
@@ -245,3 +245,7 @@ known_within R i s (Some r) =
 pub value_advances : (levels : ℕ) → Advances (value_at levels)
 value_advances zero s = here (length s)
 value_advances (suc levels) s = known_within (value_at levels) (value_advances levels) s (row_at s)
+
+pub text_advances : Advances text_at
+unfolding text_at
+text_advances s = value_advances 32 s

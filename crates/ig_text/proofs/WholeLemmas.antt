@@ -1,5 +1,7 @@
 -- A whole text is read, or is no value's.
-use Rattle.std.proofs.Common.{◌≡◌, ℕ, ◌+◌, ◌≤◌, List, [], ◌++◌, length, Result, Ok, Err, refl, sym, ap, subst, ◌∙◌}
+use Rattle.std.proofs.Common.{◌≡◌, ℕ, suc, ◌+◌, ◌≤◌, true, false, List, [], ◌∷◌, ◌++◌, length, Result, Ok, Err, refl, sym, ap, subst, ◌∙◌, arith}
+use Rattle.std.specs.Prelude.{◌==◌}
+use Rattle.std.proofs.lemmas.Bool.{eqb-true}
 use Rattle.std.proofs.lemmas.List.{append-nil}
 use Rattle.ig_value.specs.declared.value.Value.{Value}
 use Rattle.ig_value.specs.Limits.{Fits}
@@ -50,3 +52,12 @@ more_there s rest v place e some size = subst (λ (r : Read Value). IsRefusal s 
 -- a part is wrong
 pub part_wrong : (s : List ℕ) (left place : ℕ) → value_at 32 s ≡ Err left → place + left ≡ length s → IsValueResult s (Err (fault.Bad place))
 part_wrong s left place e size = subst (λ (r : Read Value). IsRefusal s place r) (sym (text_by_levels s ∙ e)) size
+
+-- ---- whether anything is left
+
+pub none_left : (l : List ℕ) → true ≡ (length l == 0) → l ≡ []
+none_left [] e = refl
+none_left (b ∷ l) e = absurd (omega (arith, eqb-true (suc (length l)) 0 (sym e)))
+
+pub some_left : (l : List ℕ) → false ≡ (length l == 0) → l ≡ [] → ⊥
+some_left l e nil = let both : false ≡ true = e ∙ ap (λ (r : List ℕ). length r == 0) nil in cc

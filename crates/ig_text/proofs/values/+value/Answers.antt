@@ -1,7 +1,8 @@
 -- Each row of the table, and the loops.
-use Rattle.std.proofs.Common.{rules, ◌≡◌, ℕ, ℤ, ◌<◌, List, [], ◌∷◌, ◌++◌, length, Some, refl, sym, ap, ◌∙◌, arith}
+use Rattle.std.proofs.Common.{rules, ◌≡◌, ℕ, ℤ, to_z, of_z, w32, ◌<◌, List, [], ◌∷◌, ◌++◌, length, Some, refl, sym, ap, ◌∙◌, arith}
 use Rattle.ig_value.specs.declared.code.Code.TheVariants as code
 use Rattle.ig_value.specs.declared.value.Value.{Value}
+use Rattle.ig_value.specs.declared.value.Value.TheVariants as value
 use Rattle.ig_value.specs.Part.{i8, i16, i32, i64, u16, u32, u64, truth}
 use Rattle.ig_value.specs.Table.{value_with}
 use Rattle.ig_text.specs.declared.fault.ReadError.{ReadError}
@@ -231,7 +232,11 @@ pub content-returns-in-Null : goal.content-returns-in-Null
 content-returns-in-Null t c = code_at c.args.levels c.args.text.now c.args.code code.Null c.in-Null.is
 
 pub content-returns-in_ok-type_id-in-Enum : goal.content-returns-in_ok-type_id-in-Enum
-content-returns-in_ok-type_id-in-Enum t c = code_at c.args.levels c.args.text.now c.args.code code.Enum c.in-Enum.is ∙ ap (mapped_read (value_with code.Enum)) c.in_ok-type_id-in-Enum.ensures
+content-returns-in_ok-type_id-in-Enum t c =
+    let type : to_z w32 (of_z w32 c.in_ok-type_id-in-Enum.type_id) ≡ c.in_ok-type_id-in-Enum.type_id = search rules in
+    let ordinal : to_z w32 (of_z w32 c.in_ok-type_id-in-Enum.ordinal) ≡ c.in_ok-type_id-in-Enum.ordinal = search rules in
+    code_at c.args.levels c.args.text.now c.args.code code.Enum c.in-Enum.is ∙ ap (mapped_read (value_with code.Enum)) c.in_ok-type_id-in-Enum.ensures ∙ ap (λ (n : ℤ). done (value.Enum n c.in_ok-type_id-in-Enum.ordinal, c.in_ok-type_id-in-Enum.rest.now)) (sym type)
+    ∙ ap (λ (n : ℤ). done (value.Enum (to_z w32 (of_z w32 c.in_ok-type_id-in-Enum.type_id)) n, c.in_ok-type_id-in-Enum.rest.now)) (sym ordinal)
 
 pub content-returns-in_err-type_id-in-Enum : goal.content-returns-in_err-type_id-in-Enum
 content-returns-in_err-type_id-in-Enum t c =
@@ -242,7 +247,11 @@ content-returns-in_err-type_id-in-Enum t c =
     search rules
 
 pub content-returns-in_ok-type_id-in-BinaryEnum : goal.content-returns-in_ok-type_id-in-BinaryEnum
-content-returns-in_ok-type_id-in-BinaryEnum t c = code_at c.args.levels c.args.text.now c.args.code code.BinaryEnum c.in-BinaryEnum.is ∙ ap (mapped_read (value_with code.BinaryEnum)) c.in_ok-type_id-in-BinaryEnum.ensures
+content-returns-in_ok-type_id-in-BinaryEnum t c =
+    let type : to_z w32 (of_z w32 c.in_ok-type_id-in-BinaryEnum.type_id) ≡ c.in_ok-type_id-in-BinaryEnum.type_id = search rules in
+    let ordinal : to_z w32 (of_z w32 c.in_ok-type_id-in-BinaryEnum.ordinal) ≡ c.in_ok-type_id-in-BinaryEnum.ordinal = search rules in
+    code_at c.args.levels c.args.text.now c.args.code code.BinaryEnum c.in-BinaryEnum.is ∙ ap (mapped_read (value_with code.BinaryEnum)) c.in_ok-type_id-in-BinaryEnum.ensures ∙ ap (λ (n : ℤ). done (value.BinaryEnum n c.in_ok-type_id-in-BinaryEnum.ordinal, c.in_ok-type_id-in-BinaryEnum.rest.now)) (sym type)
+    ∙ ap (λ (n : ℤ). done (value.BinaryEnum (to_z w32 (of_z w32 c.in_ok-type_id-in-BinaryEnum.type_id)) n, c.in_ok-type_id-in-BinaryEnum.rest.now)) (sym ordinal)
 
 pub content-returns-in_err-type_id-in-BinaryEnum : goal.content-returns-in_err-type_id-in-BinaryEnum
 content-returns-in_err-type_id-in-BinaryEnum t c =
@@ -342,20 +351,23 @@ pub entries-loop-preserved : goal.entries-loop-preserved
 entries-loop-preserved t c =
     let R : List ℕ → Read (ℤ × Value) = entry_at (value_at c.args.levels) in
     let one = next_read R c.loop.rest.now c.in_ok-next.next.now _ c.in_ok-next.ensures c.in_ok-id-2.ensures in
+    let id : to_z w32 (of_z w32 c.in_ok-id-2.id) ≡ c.in_ok-id-2.id = search rules in
+    let pushed : c.push-in-loop.new.self.items ≡ c.loop.ids.items ++ to_z w32 (of_z w32 c.in_ok-id-2.id) ∷ [] = c.in_ok-push-3.ensures.items in
+    let p : c.push-in-loop.new.self.items ≡ c.loop.ids.items ++ c.in_ok-id-2.id ∷ [] = pushed ∙ ap (λ (n : ℤ). c.loop.ids.items ++ n ∷ []) id in
     record {
-      same =
-          pushed_same c.loop.ids.items c.push-in-loop.new.self.items c.loop.fields.items c.push-in-loop-2.new.self.items c.in_ok-id-2.id c.in_ok-id-2.field c.loop.invariant.same c.in_ok-push-3.ensures.items
-          c.in_ok-push-4.ensures.items;
+      same = pushed_same c.loop.ids.items c.push-in-loop.new.self.items c.loop.fields.items c.push-in-loop-2.new.self.items c.in_ok-id-2.id c.in_ok-id-2.field c.loop.invariant.same p c.in_ok-push-4.ensures.items;
       so_far =
           entry_pushed (next_at R) close_brace (length c.in_ok-id.rest.now) c.loop.counter c.loop.rest.now c.loop.ids.items c.push-in-loop.new.self.items c.loop.fields.items c.push-in-loop-2.new.self.items
-          c.in_ok-id-2.id c.in_ok-id-2.field c.in_ok-id-2.next.now (any_at R close_brace c.args.text.now) c.loop.invariant.same refl c.loop-test.true (c.in_default-after.ensures.none refl) one
-          c.in_ok-push-3.ensures.items c.in_ok-push-4.ensures.items c.loop.invariant.so_far;
+          c.in_ok-id-2.id c.in_ok-id-2.field c.in_ok-id-2.next.now (any_at R close_brace c.args.text.now) c.loop.invariant.same refl c.loop-test.true (c.in_default-after.ensures.none refl) one p
+          c.in_ok-push-4.ensures.items c.loop.invariant.so_far;
     }
 
 pub entries-loop-init : goal.entries-loop-init
 entries-loop-init t c =
     let R : List ℕ → Read (ℤ × Value) = entry_at (value_at c.args.levels) in
-    let p : c.push.new.self.items ≡ c.in_ok-id.id ∷ [] = c.in_ok-push.ensures.items ∙ ap (λ (l : List ℤ). l ++ c.in_ok-id.id ∷ []) c.new-ids.ensures.items in
+    let id : to_z w32 (of_z w32 c.in_ok-id.id) ≡ c.in_ok-id.id = search rules in
+    let pushed : c.push.new.self.items ≡ c.new-ids.result.items ++ to_z w32 (of_z w32 c.in_ok-id.id) ∷ [] = c.in_ok-push.ensures.items in
+    let p : c.push.new.self.items ≡ c.in_ok-id.id ∷ [] = pushed ∙ ap (λ (n : ℤ). c.new-ids.result.items ++ n ∷ []) id ∙ ap (λ (l : List ℤ). l ++ c.in_ok-id.id ∷ []) c.new-ids.ensures.items in
     let q : c.push-2.new.self.items ≡ c.in_ok-id.field ∷ [] = c.in_ok-push-2.ensures.items ∙ ap (λ (l : List Value). l ++ c.in_ok-id.field ∷ []) c.new-fields.ensures.items in
     record {
       same = ap length p ∙ sym (ap length q);
