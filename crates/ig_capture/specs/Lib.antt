@@ -1,0 +1,3 @@
+pub mod Records
+pub mod Talks
+pub mod CaptureText

@@ -1,0 +1,4 @@
+pub mod ArgumentLemmas
+pub mod LinePlaceLemmas
+pub mod LineLemmas
+pub mod AskLemmas

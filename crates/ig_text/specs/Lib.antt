@@ -1,0 +1,10 @@
+pub mod Tokens
+pub mod Words
+pub mod TextOf
+pub mod ReadText
+pub mod TextLaws
+pub mod ReaderAnswers
+pub mod PairText
+pub mod DescriptionText
+pub mod FitsDescription
+pub mod DescriptionLaws
