@@ -1,9 +1,9 @@
 ghost use Rattle.std.specs.Prelude.{◌≡◌, ◌≢◌, [], All, IfSome, IfOk};
 ghost use Rattle.ig_caches.specs.IsRunnable.{IsItem, IsRow, IsRunnable};
 
-use ig_base::{Items, NoMemory, Octets, Text, text_hash};
+use ig_base::{Items, NoMemory, NoRoom, Octets, Text, text_hash};
 use ig_caches::*;
-use ig_types::{FieldMeta, TypeMeta};
+use ig_types::{Clash, FieldMeta, TypeMeta};
 use ig_value::Value;
 use std::alloc::{AllocError, Global};
 use std::test::Fail;
@@ -190,7 +190,7 @@ fn rows_call(alloc: Global, cache: i32, name: &str, n: &[i32]) -> Result<Option<
 }
 
 /// Every call on the keys of `main`, in which 1 has the value 2: what it answers, and what it leaves.
-static ROWS_OF_MAIN: [(&str, &str, &str); 44] = [
+static ROWS_OF_MAIN: [(&str, &str, &str); 46] = [
     ("get main 1", "found 2", "rows 1 2"),
     ("get main 3", "found null", "rows 1 2"),
     ("contains main 1", "yes", "rows 1 2"),
@@ -231,7 +231,9 @@ static ROWS_OF_MAIN: [(&str, &str, &str); 44] = [
     ("put-all main 1 5 3 6 1 7", "done", "rows 1 7 3 6"),
     ("put-all main", "done", "rows 1 2"),
     ("clear-keys main 3 1", "done", "rows"),
+    ("clear-keys main 3", "done", "rows 1 2"),
     ("remove-keys main 1 1", "done", "rows"),
+    ("remove-keys main 3", "done", "rows 1 2"),
     ("clear main", "done", "rows"),
     ("remove-all main", "done", "rows"),
     ("scan main", "rows 1 2", "rows 1 2"),
@@ -404,20 +406,32 @@ fn shown(alloc: Global, outcome: &Outcome) -> Result<String, AllocError> {
             format!(in alloc; "name {name}")
         }
         Outcome::Meta(None) => String::from_str(alloc, "no type"),
-        Outcome::Meta(Some(meta)) => shown_fields(alloc, meta),
+        Outcome::Meta(Some(meta)) => shown_meta(alloc, meta),
         Outcome::Keys(keys) => shown_keys(alloc, keys.as_slice()),
         Outcome::Refused(why) => shown_why(alloc, why),
     }
 }
 
-/// The names of the fields.
-fn shown_fields(alloc: Global, meta: &TypeMeta) -> Result<String, AllocError> {
-    let mut shown = String::from_str(alloc, "type")?;
+/// The type, its name and its affinity key, and the name, kind and identifier of each field.
+fn shown_meta(alloc: Global, meta: &TypeMeta) -> Result<String, AllocError> {
+    let type_id = meta.type_id;
+    let name = meta.name.as_str();
+    let affinity = match &meta.affinity {
+        Some(affinity) => affinity.as_str(),
+        None => "-",
+    };
+    let mut shown = format!(in alloc; "type {type_id} {name} {affinity}")?;
     for field in meta.fields.as_slice() {
-        shown.push(' ')?;
-        shown.push_str(field.name.as_str())?;
+        shown.push_str(shown_field(alloc, field)?.as_str())?;
     }
     Ok(shown)
+}
+
+fn shown_field(alloc: Global, field: &FieldMeta) -> Result<String, AllocError> {
+    let name = field.name.as_str();
+    let kind = field.kind;
+    let id = field.id;
+    format!(in alloc; " {name} {kind} {id}")
 }
 
 fn shown_keys(alloc: Global, keys: &[(i32, i32)]) -> Result<String, AllocError> {
@@ -437,40 +451,75 @@ fn shown_why(alloc: Global, why: &Why) -> Result<String, AllocError> {
             Why::TooManyCaches => "too many caches",
             Why::TooManyChanges => "too many changes",
             Why::NoTypeName => "no type name",
-            Why::Clash(_) => "clash",
+            Why::Clash(clash) => clash_word(clash),
         },
     )
 }
 
-/// Runs the call of a row, and says what it answers.
-fn run(alloc: Global, caches: &mut Caches, row: &str) -> Result<String, AllocError> {
-    let Some(call) = call_of(alloc, row)? else {
-        return String::from_str(alloc, "no call");
-    };
-    match caches.run(call) {
-        Ok(answer) => shown(alloc, &answer.outcome),
-        Err(_) => String::from_str(alloc, "no memory"),
+/// What two descriptions contradict each other in.
+fn clash_word(clash: &Clash) -> &'static str {
+    match clash {
+        Clash::Name(..) => "clash of names",
+        Clash::Affinity(..) => "clash of affinity keys",
+        Clash::EnumFlag(..) => "clash of flags",
+        Clash::Field(..) => "clash of fields",
+        Clash::Literal(..) => "clash of literals",
+        Clash::Schema(..) => "clash of schemas",
     }
 }
 
-/// The cache `main`.
-fn main_cache(alloc: Global) -> Result<Option<Caches>, AllocError> {
-    let mut names = Vec::new(alloc);
-    names.push(text(alloc, "main")?)?;
-    Ok(Caches::start(alloc, names).ok())
+/// Runs the call of a row. Says what it answers, and how often caches had been created and destroyed then.
+fn run_counted(alloc: Global, caches: &mut Caches, row: &str) -> Result<(String, i32), AllocError> {
+    let Some(call) = call_of(alloc, row)? else {
+        return Ok((String::from_str(alloc, "no call")?, 0));
+    };
+    match caches.run(call) {
+        Ok(answer) => Ok((shown(alloc, &answer.outcome)?, answer.minor)),
+        Err(_) => Err(AllocError),
+    }
 }
 
-/// The first row with another answer or other rows after it.
+/// Runs the call of a row, and says what it answers.
+fn run(alloc: Global, caches: &mut Caches, row: &str) -> Result<String, AllocError> {
+    Ok(run_counted(alloc, caches, row)?.0)
+}
+
+/// Starts with these names.
+fn start(alloc: Global, names: &str) -> Result<Result<Caches, StartFault>, AllocError> {
+    let mut list = Vec::new(alloc);
+    for name in names.split(' ') {
+        list.push(text(alloc, name)?)?;
+    }
+    Ok(Caches::start(alloc, list))
+}
+
+/// Whether a call on the rows of `main` is answered so and leaves these rows.
+fn row_holds(alloc: Global, row: &str, answer: &str, rows: &str) -> Result<bool, AllocError> {
+    let Ok(mut caches) = start(alloc, "main")? else {
+        return Ok(false);
+    };
+    run(alloc, &mut caches, "put main 1 2")?;
+    if run(alloc, &mut caches, row)?.as_str() != answer {
+        return Ok(false);
+    }
+    Ok(run(alloc, &mut caches, "scan main")?.as_str() == rows)
+}
+
+/// Whether a call on the rows of `main` is refused where `main` doesn't stand.
+fn is_refused(alloc: Global, row: &str) -> Result<bool, AllocError> {
+    let Ok(mut caches) = start(alloc, "x")? else {
+        return Ok(false);
+    };
+    Ok(run(alloc, &mut caches, row)?.as_str() == "no cache")
+}
+
+/// The first row with another answer or other rows after it, or whose call isn't refused without `main`.
 fn wrong_row(alloc: Global) -> Result<Option<&'static str>, AllocError> {
     for &(row, answer, rows) in &ROWS_OF_MAIN {
-        let Some(mut caches) = main_cache(alloc)? else {
-            return Ok(Some("start"));
-        };
-        run(alloc, &mut caches, "put main 1 2")?;
-        if run(alloc, &mut caches, row)?.as_str() != answer {
+        if !row_holds(alloc, row, answer, rows)? {
             return Ok(Some(row));
         }
-        if run(alloc, &mut caches, "scan main")?.as_str() != rows {
+        if !is_refused(alloc, row)? {
             return Ok(Some(row));
         }
     }
@@ -483,50 +532,104 @@ fn calls_on_rows_answer_and_leave(rt: HostRuntime) -> Result<(), Fail> {
     Ok(())
 }
 
-/// Calls in turn, and their answers.
-static CALLS: [(&str, &str); 33] = [
-    ("put-all main 1 2 1 3 4 5", "done"),
-    ("get-all main 4 1 9 4", "rows 4 5 1 3"),
-    ("get none 1", "no cache"),
-    ("create x", "done"),
-    ("create x", "cache exists"),
-    ("get-or-create x", "done"),
-    ("names", "names main x"),
-    ("put x 1 7", "done"),
-    ("get main 1", "found 3"),
-    ("scan x", "rows 1 7"),
-    ("put-all main 5 5 3 3 2 2 1 1 4 4", "done"),
-    ("scan main", "rows 1 1 2 2 3 3 4 4 5 5"),
-    ("put main 6 6", "done"),
-    ("size main", "count 6"),
-    ("destroy x", "done"),
-    ("destroy x", "no cache"),
-    ("scan x", "no cache"),
-    ("get-or-create x", "done"),
-    ("scan x", "rows"),
-    ("names", "names main x"),
-    ("type 5", "no type"),
-    ("put-type a 5 3 97", "done"),
-    ("type 5", "type a"),
-    ("put-type b 5 9 98", "done"),
-    ("put-type a 5 4 97", "clash"),
-    ("type 5", "type a b"),
-    ("affinity main", "keys"),
-    ("put-type a 5 3 97 1", "done"),
-    ("affinity main", "keys 5 97"),
-    ("affinity none", "no cache"),
-    ("name 5", "no type name"),
-    ("set-name P 5", "yes"),
-    ("set-name Q 5", "no"),
+/// A call, its answer, and how often caches had been created and destroyed then.
+type Step = (&'static str, &'static str, i32);
+
+/// Calls in turn on caches that start with `main`.
+static SESSIONS: [&[Step]; 6] = [
+    // Keys that are repeated, and one without a row.
+    &[
+        ("put-all main 1 2 1 3 4 5", "done", 0),
+        ("get-all main 4 1 9 4", "rows 4 5 1 3", 0),
+        ("scan main", "rows 1 3 4 5", 0),
+    ],
+    // The rows of a scan are those of its time, in the order of their keys' bytes.
+    &[
+        ("put-all main 5 5 3 3 2 2 1 1 4 4", "done", 0),
+        ("scan main", "rows 1 1 2 2 3 3 4 4 5 5", 0),
+        ("put main 6 6", "done", 0),
+        ("scan main", "rows 1 1 2 2 3 3 4 4 5 5 6 6", 0),
+        ("put-all main 256 7 -1 8", "done", 0),
+        ("size main", "count 8", 0),
+        ("clear-keys main 2 3 4 5 6", "done", 0),
+        ("scan main", "rows 256 7 1 1 -1 8", 0),
+    ],
+    // Caches are created once, and a new one of the same name is empty. What is refused isn't counted.
+    &[
+        ("get none 1", "no cache", 0),
+        ("create x", "done", 1),
+        ("create x", "cache exists", 1),
+        ("get-or-create x", "done", 1),
+        ("names", "names main x", 1),
+        ("put x 1 7", "done", 1),
+        ("get main 1", "found null", 1),
+        ("scan x", "rows 1 7", 1),
+        ("destroy x", "done", 2),
+        ("destroy x", "no cache", 2),
+        ("scan x", "no cache", 2),
+        ("get-or-create x", "done", 3),
+        ("scan x", "rows", 3),
+        ("create Aa", "done", 4),
+        ("create BB", "cache exists", 4),
+        ("get-or-create BB", "cache exists", 4),
+        ("names", "names main x Aa", 4),
+    ],
+    // Descriptions of a type are joined, unless they clash.
+    &[
+        ("type 5", "no type", 0),
+        ("put-type a 5 3 97", "done", 0),
+        ("type 5", "type 5 P - a 3 97", 0),
+        ("put-type b 5 9 98", "done", 0),
+        ("type 5", "type 5 P - a 3 97 b 9 98", 0),
+        ("put-type a 5 4 97", "clash of fields", 0),
+        ("type 5", "type 5 P - a 3 97 b 9 98", 0),
+        ("affinity main", "keys", 0),
+        ("put-type a 5 3 97 1", "done", 0),
+        ("type 5", "type 5 P a a 3 97 b 9 98", 0),
+        ("put-type b 5 9 98 1", "clash of affinity keys", 0),
+        ("type 5", "type 5 P a a 3 97 b 9 98", 0),
+        ("affinity main", "keys 5 97", 0),
+        ("affinity none", "no cache", 0),
+    ],
+    // The first name of a type stays.
+    &[
+        ("name 5", "no type name", 0),
+        ("set-name P 5", "yes", 0),
+        ("set-name Q 5", "no", 0),
+        ("name 5", "name P", 0),
+        ("set-name P 5", "yes", 0),
+        ("name 6", "no type name", 0),
+    ],
+    // A value is replaced, and counted by its modes.
+    &[
+        ("put main 1 2", "done", 0),
+        ("replace-if main 1 3 4", "no", 0),
+        ("size main", "count 1", 0),
+        ("size main 1", "count 0", 0),
+    ],
 ];
 
-/// The first call with another answer.
-fn wrong_answer(alloc: Global) -> Result<Option<&'static str>, AllocError> {
-    let Some(mut caches) = main_cache(alloc)? else {
+/// The first call of a session with another answer or another count.
+fn wrong_step(alloc: Global, session: &[Step]) -> Result<Option<&'static str>, AllocError> {
+    let Ok(mut caches) = start(alloc, "main")? else {
         return Ok(Some("start"));
     };
-    for &(row, answer) in &CALLS {
-        if run(alloc, &mut caches, row)?.as_str() != answer {
+    for &(row, answer, count) in session {
+        let (shown, counted) = run_counted(alloc, &mut caches, row)?;
+        if shown.as_str() != answer {
+            return Ok(Some(row));
+        }
+        if counted != count {
+            return Ok(Some(row));
+        }
+    }
+    Ok(None)
+}
+
+/// The first such call of all sessions.
+fn wrong_session(alloc: Global) -> Result<Option<&'static str>, AllocError> {
+    for session in &SESSIONS {
+        if let Some(row) = wrong_step(alloc, *session)? {
             return Ok(Some(row));
         }
     }
@@ -535,7 +638,112 @@ fn wrong_answer(alloc: Global) -> Result<Option<&'static str>, AllocError> {
 
 #[test]
 fn calls_follow_one_another(rt: HostRuntime) -> Result<(), Fail> {
-    assert_eq!(rt; wrong_answer(rt.alloc())?, None);
+    assert_eq!(rt; wrong_session(rt.alloc())?, None);
+    Ok(())
+}
+
+/// What stands in the caches `main` and `x`, what caches and what type 5 there are.
+fn standing(alloc: Global, caches: &mut Caches) -> Result<String, AllocError> {
+    let mut all = String::new(alloc);
+    for row in ["scan main", "scan x", "names", "type 5", "name 5"] {
+        all.push_str(run(alloc, caches, row)?.as_str())?;
+        all.push(';')?;
+    }
+    Ok(all)
+}
+
+/// Names of caches, a call that takes memory or might, and what stands after it where 1 to 4 are rows of
+/// `main`, `x` is empty and type 5 has the field `a`.
+static TAKING: [(&str, &str, &str); 9] = [
+    (
+        "main x",
+        "put-all x 5 6 1 9 7 8 5 1 2 2 3 3 4 4 6 6 8 8 9 9 10 10 11 11 12 12 13 13",
+        "rows 1 1 2 2 3 3 4 4;rows 1 9 2 2 3 3 4 4 5 1 6 6 7 8 8 8 9 9 10 10 11 11 12 12 13 13;names main x;type 5 P - a 3 97;no type name;",
+    ),
+    (
+        "main x",
+        "put-all main 4 7 5 8 1 9",
+        "rows 1 9 2 2 3 3 4 7 5 8;rows;names main x;type 5 P - a 3 97;no type name;",
+    ),
+    (
+        "main x",
+        "remove-keys main 1 9 3",
+        "rows 2 2 4 4;rows;names main x;type 5 P - a 3 97;no type name;",
+    ),
+    (
+        "main x a b c d e f g",
+        "create y",
+        "rows 1 1 2 2 3 3 4 4;rows;names main x a b c d e f g y;type 5 P - a 3 97;no type name;",
+    ),
+    (
+        "main x a b c d e f g",
+        "get-or-create y",
+        "rows 1 1 2 2 3 3 4 4;rows;names main x a b c d e f g y;type 5 P - a 3 97;no type name;",
+    ),
+    (
+        "main x",
+        "put-type b 5 9 98",
+        "rows 1 1 2 2 3 3 4 4;rows;names main x;type 5 P - a 3 97 b 9 98;no type name;",
+    ),
+    (
+        "main x",
+        "set-name P 5",
+        "rows 1 1 2 2 3 3 4 4;rows;names main x;type 5 P - a 3 97;name P;",
+    ),
+    (
+        "main x",
+        "get-and-put x 1 2",
+        "rows 1 1 2 2 3 3 4 4;rows 1 2;names main x;type 5 P - a 3 97;no type name;",
+    ),
+    (
+        "main x",
+        "get-and-remove main 2",
+        "rows 1 1 3 3 4 4;rows;names main x;type 5 P - a 3 97;no type name;",
+    ),
+];
+
+/// Runs a call. If there is no memory for it, whether nothing has changed and the call that came back runs.
+fn runs_whole(alloc: Global, caches: &mut Caches, row: &str) -> Result<bool, AllocError> {
+    let before = standing(alloc, caches)?;
+    let Some(call) = call_of(alloc, row)? else {
+        return Ok(false);
+    };
+    let Err(NoRoom { back }) = caches.run(call) else {
+        return Ok(true);
+    };
+    if standing(alloc, caches)?.as_str() != before.as_str() {
+        return Ok(false);
+    }
+    Ok(caches.run(back).is_ok())
+}
+
+/// Whether the call runs so, and leaves what stands then.
+fn leaves(alloc: Global, names: &str, row: &str, after: &str) -> Result<bool, AllocError> {
+    let Ok(mut caches) = start(alloc, names)? else {
+        return Err(AllocError);
+    };
+    run(alloc, &mut caches, "put-all main 1 1 2 2 3 3 4 4")?;
+    run(alloc, &mut caches, "put-type a 5 3 97")?;
+    if !runs_whole(alloc, &mut caches, row)? {
+        return Ok(false);
+    }
+    Ok(standing(alloc, &mut caches)?.as_str() == after)
+}
+
+/// The first call that leaves something else.
+fn wrong_taking(alloc: Global) -> Result<Option<&'static str>, AllocError> {
+    for &(names, row, after) in &TAKING {
+        if !leaves(alloc, names, row, after)? {
+            return Ok(Some(row));
+        }
+    }
+    Ok(None)
+}
+
+// For allocations that are refused one at a time: the call then answers that there is no memory, or what it always does.
+#[test]
+fn calls_without_memory_change_nothing(rt: HostRuntime) -> Result<(), Fail> {
+    assert_eq!(rt; wrong_taking(rt.alloc())?, None);
     Ok(())
 }
 
@@ -550,11 +758,7 @@ static STARTS: [(&str, Result<(), StartFault>); 6] = [
 ];
 
 fn started(alloc: Global, row: &str) -> Result<Result<(), StartFault>, AllocError> {
-    let mut names = Vec::new(alloc);
-    for name in row.split(' ') {
-        names.push(text(alloc, name)?)?;
-    }
-    Ok(match Caches::start(alloc, names) {
+    Ok(match start(alloc, row)? {
         Ok(_) => Ok(()),
         Err(fault) => Err(fault),
     })

@@ -4,7 +4,7 @@
 //! an answer, at the desk  --answer, answer_scan, next_page, close, ..-->  ReplyFrame
 //! ReplyFrame              --Queue::push-->  waits after the others
 //! Queue::waiting          the bytes to be written next, at most 65,536
-//! Queue::gone             so many of them were written
+//! Queue::gone             this many of them were written
 //! ```
 //!
 //! A [`ReplyFrame`] owns what it shows: the rows of a page are moved out of the cursor. So showing a reply

@@ -17,7 +17,7 @@ use std::marker::Model;
 /// ```text
 /// push     a reply waits after the others; the first one begins at once
 /// waiting  the bytes to be written next
-/// gone     so many of them were written
+/// gone     this many of them were written
 /// ```
 #[derive(Drop)]
 pub struct Queue {

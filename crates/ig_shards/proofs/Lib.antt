@@ -1,0 +1,17 @@
+pub mod SpreadLemmas
+pub mod BesideLemmas
+pub mod PartLemmas
+pub mod EachLemmas
+pub mod TogetherLemmas
+pub mod CreationLemmas
+pub mod RunLemmas
+pub mod FreshLemmas
+pub mod WholeLemmas
+pub mod FirstLemmas
+pub mod AddLemmas
+pub mod SeveralLemmas
+pub mod OneShardLemmas
+pub mod MarkLemmas
+pub mod MergeLemmas
+pub mod CutLemmas
+pub mod LegalLemmas

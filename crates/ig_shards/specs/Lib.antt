@@ -1,0 +1,12 @@
+pub mod ShardOf
+pub mod Touches
+pub mod Spread
+pub mod Parts
+pub mod CodedCaches
+pub mod PartView
+pub mod RowsOfParts
+pub mod RunsOnParts
+pub mod Marks
+pub mod Merges
+pub mod LegalAt
+pub mod Laws
