@@ -77,7 +77,7 @@ pub joined_advances : {A B : Type 0} (R : List ℕ → Read A) (b : ℕ) (Q : Li
 joined_advances R b Q p q s =
     then_within (length s) (R s) (λ x. mark_at b x.1 >>= λ m. Q m.1 >>= λ y. done ((x.0, y.0), y.1)) (p s)
     (λ x. then_within (length x.1) (mark_at b x.1) (λ m. Q m.1 >>= λ y. done ((x.0, y.0), y.1)) (mark_advances b x.1)
-      (λ m. then_within (length m.1) (Q m.1) (λ y. done ((x.0, y.0), y.1)) (q m.1) (λ y. here (length y.1))))
+    (λ m. then_within (length m.1) (Q m.1) (λ y. done ((x.0, y.0), y.1)) (q m.1) (λ y. here (length y.1))))
 
 -- ---- numbers
 
@@ -140,7 +140,6 @@ stamp_advances s = mapped_within _ (length s) (joined_at (scalar_at i64) colon (
 decimal_advances : Advances decimal_at
 decimal_advances s = mapped_within _ (length s) (joined_at (scalar_at i32) colon octets_at s) (joined_advances (scalar_at i32) colon octets_at (scalar_advances i32) octets_advances s)
 
-
 uuid_advances : Advances uuid_at
 uuid_advances s =
     let last = joined_advances (run_at false 2) minus (run_at false 6) (run_advances false 2) (run_advances false 6) in
@@ -157,7 +156,7 @@ until_advances R close (suc n) p [] = here 0
 until_advances {A} R close (suc n) p (b ∷ s) =
     chosen_within {A = List A} (eqb b close) (suc (length s)) (done ([], s)) (R (b ∷ s) >>= λ x. until_at R close n x.1 >>= λ xs. done (x.0 ∷ xs.0, xs.1)) (below (length s))
     (then_within (suc (length s)) (R (b ∷ s)) (λ x. until_at R close n x.1 >>= λ xs. done (x.0 ∷ xs.0, xs.1)) (p (b ∷ s))
-      (λ x. then_within (length x.1) (until_at R close n x.1) (λ xs. done (x.0 ∷ xs.0, xs.1)) (until_advances R close n p x.1) (λ xs. here (length xs.1))))
+    (λ x. then_within (length x.1) (until_at R close n x.1) (λ xs. done (x.0 ∷ xs.0, xs.1)) (until_advances R close n p x.1) (λ xs. here (length xs.1))))
 
 some_advances : {A : Type 0} (R : List ℕ → Read A) (close : ℕ) → Advances R → Advances (some_at R close)
 some_advances R close p s =

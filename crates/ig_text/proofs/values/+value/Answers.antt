@@ -35,9 +35,9 @@ values-returns-in_err-next t c =
     let s : List ℕ = c.args.text.now in
     let wrong = comma_stops R c.loop.rest.now c.in_err-next.field-0.0 c.in_err-next.ensures in
     let fails : Fails c.in_err-next.field-0.0 (items_at R c.args.close s) =
-        items_stop R c.args.close s c.in_err-next.field-0.0
-        (until_stops (next_at R) c.args.close (length c.in_ok-first.rest.now) c.loop.counter c.loop.rest.now c.loop.read.items c.in_err-next.field-0.0 (any_at R c.args.close s) refl c.loop-test.true
-          (c.in_default-after.ensures.none refl) wrong c.loop.invariant) in
+    items_stop R c.args.close s c.in_err-next.field-0.0
+    (until_stops (next_at R) c.args.close (length c.in_ok-first.rest.now) c.loop.counter c.loop.rest.now c.loop.read.items c.in_err-next.field-0.0 (any_at R c.args.close s) refl c.loop-test.true
+    (c.in_default-after.ensures.none refl) wrong c.loop.invariant) in
     search rules
 
 pub values-returns-in_err-item : goal.values-returns-in_err-item
@@ -46,9 +46,9 @@ values-returns-in_err-item t c =
     let s : List ℕ = c.args.text.now in
     let wrong = next_stops R c.loop.rest.now c.in_ok-next.next.now c.in_err-item.field-0.0 c.in_ok-next.ensures c.in_err-item.ensures in
     let fails : Fails c.in_err-item.field-0.0 (items_at R c.args.close s) =
-        items_stop R c.args.close s c.in_err-item.field-0.0
-        (until_stops (next_at R) c.args.close (length c.in_ok-first.rest.now) c.loop.counter c.loop.rest.now c.loop.read.items c.in_err-item.field-0.0 (any_at R c.args.close s) refl c.loop-test.true
-          (c.in_default-after.ensures.none refl) wrong c.loop.invariant) in
+    items_stop R c.args.close s c.in_err-item.field-0.0
+    (until_stops (next_at R) c.args.close (length c.in_ok-first.rest.now) c.loop.counter c.loop.rest.now c.loop.read.items c.in_err-item.field-0.0 (any_at R c.args.close s) refl c.loop-test.true
+    (c.in_default-after.ensures.none refl) wrong c.loop.invariant) in
     search rules
 
 pub values-loop-preserved : goal.values-loop-preserved
@@ -73,9 +73,9 @@ pairs-returns-in_err-next t c =
     let s : List ℕ = c.args.text.now in
     let wrong = comma_stops R c.loop.rest.now c.in_err-next.field-0.0 c.in_err-next.ensures in
     let fails : Fails c.in_err-next.field-0.0 (items_at R close_bracket s) =
-        items_stop R close_bracket s c.in_err-next.field-0.0
-        (until_stops (next_at R) close_bracket (length c.in_ok-first.rest.now) c.loop.counter c.loop.rest.now c.loop.read.items c.in_err-next.field-0.0 (any_at R close_bracket s) refl c.loop-test.true
-          (c.in_default-after.ensures.none refl) wrong c.loop.invariant) in
+    items_stop R close_bracket s c.in_err-next.field-0.0
+    (until_stops (next_at R) close_bracket (length c.in_ok-first.rest.now) c.loop.counter c.loop.rest.now c.loop.read.items c.in_err-next.field-0.0 (any_at R close_bracket s) refl c.loop-test.true
+    (c.in_default-after.ensures.none refl) wrong c.loop.invariant) in
     search rules
 
 pub pairs-returns-in_err-item : goal.pairs-returns-in_err-item
@@ -84,9 +84,9 @@ pairs-returns-in_err-item t c =
     let s : List ℕ = c.args.text.now in
     let wrong = next_stops R c.loop.rest.now c.in_ok-next.next.now c.in_err-item.field-0.0 c.in_ok-next.ensures c.in_err-item.ensures in
     let fails : Fails c.in_err-item.field-0.0 (items_at R close_bracket s) =
-        items_stop R close_bracket s c.in_err-item.field-0.0
-        (until_stops (next_at R) close_bracket (length c.in_ok-first.rest.now) c.loop.counter c.loop.rest.now c.loop.read.items c.in_err-item.field-0.0 (any_at R close_bracket s) refl c.loop-test.true
-          (c.in_default-after.ensures.none refl) wrong c.loop.invariant) in
+    items_stop R close_bracket s c.in_err-item.field-0.0
+    (until_stops (next_at R) close_bracket (length c.in_ok-first.rest.now) c.loop.counter c.loop.rest.now c.loop.read.items c.in_err-item.field-0.0 (any_at R close_bracket s) refl c.loop-test.true
+    (c.in_default-after.ensures.none refl) wrong c.loop.invariant) in
     search rules
 
 pub pairs-loop-preserved : goal.pairs-loop-preserved
@@ -243,7 +243,7 @@ content-returns-in_err-type_id-in-Enum t c =
     let s : List ℕ = c.args.text.now in
     let e : ReadError = c.in_err-type_id-in-Enum.field-0.0 in
     let fails : Fails e (content_at (value_at c.args.levels) (Kind c.args.code) s) =
-        code_stops c.args.levels s c.args.code code.Enum e c.in-Enum.is (mapped_stops (value_with code.Enum) (joined_at (scalar_at i32) colon (scalar_at i32) s) e c.in_err-type_id-in-Enum.ensures) in
+    code_stops c.args.levels s c.args.code code.Enum e c.in-Enum.is (mapped_stops (value_with code.Enum) (joined_at (scalar_at i32) colon (scalar_at i32) s) e c.in_err-type_id-in-Enum.ensures) in
     search rules
 
 pub content-returns-in_ok-type_id-in-BinaryEnum : goal.content-returns-in_ok-type_id-in-BinaryEnum
@@ -258,7 +258,7 @@ content-returns-in_err-type_id-in-BinaryEnum t c =
     let s : List ℕ = c.args.text.now in
     let e : ReadError = c.in_err-type_id-in-BinaryEnum.field-0.0 in
     let fails : Fails e (content_at (value_at c.args.levels) (Kind c.args.code) s) =
-        code_stops c.args.levels s c.args.code code.BinaryEnum e c.in-BinaryEnum.is (mapped_stops (value_with code.BinaryEnum) (joined_at (scalar_at i32) colon (scalar_at i32) s) e c.in_err-type_id-in-BinaryEnum.ensures) in
+    code_stops c.args.levels s c.args.code code.BinaryEnum e c.in-BinaryEnum.is (mapped_stops (value_with code.BinaryEnum) (joined_at (scalar_at i32) colon (scalar_at i32) s) e c.in_err-type_id-in-BinaryEnum.ensures) in
     search rules
 
 -- ---- value
@@ -315,7 +315,7 @@ entries-returns-in_err-fields t c =
     let read : List (ℤ × Value) = entries c.loop.ids.items c.loop.fields.items in
     let e = until_closed (next_at R) close_brace (length c.in_ok-id.rest.now) c.loop.counter c.loop.rest.now c.in-Some-after.behind.now read (any_at R close_brace s) c.loop-test.true c.in-Some-after.ensures.some c.loop.invariant.so_far in
     let fails : Fails c.in_err-fields.field-0.0 (mapped_read apart (items_at R close_brace s)) =
-        entries_long R close_brace s c.loop.ids.items c.loop.fields.items c.in-Some-after.behind.now c.in_err-fields.field-0.0 c.loop.invariant.same e c.in_err-fields.ensures in
+    entries_long R close_brace s c.loop.ids.items c.loop.fields.items c.in-Some-after.behind.now c.in_err-fields.field-0.0 c.loop.invariant.same e c.in_err-fields.ensures in
     search rules
 
 pub entries-returns-in_err-next : goal.entries-returns-in_err-next
@@ -325,9 +325,9 @@ entries-returns-in_err-next t c =
     let read : List (ℤ × Value) = entries c.loop.ids.items c.loop.fields.items in
     let wrong = comma_stops R c.loop.rest.now c.in_err-next.field-0.0 c.in_err-next.ensures in
     let fails : Fails c.in_err-next.field-0.0 (mapped_read apart (items_at R close_brace s)) =
-        entries_stop R close_brace s c.in_err-next.field-0.0
-        (until_stops (next_at R) close_brace (length c.in_ok-id.rest.now) c.loop.counter c.loop.rest.now read c.in_err-next.field-0.0 (any_at R close_brace s) refl c.loop-test.true
-          (c.in_default-after.ensures.none refl) wrong c.loop.invariant.so_far) in
+    entries_stop R close_brace s c.in_err-next.field-0.0
+    (until_stops (next_at R) close_brace (length c.in_ok-id.rest.now) c.loop.counter c.loop.rest.now read c.in_err-next.field-0.0 (any_at R close_brace s) refl c.loop-test.true
+    (c.in_default-after.ensures.none refl) wrong c.loop.invariant.so_far) in
     search rules
 
 pub entries-returns-in_err-id-2 : goal.entries-returns-in_err-id-2
@@ -337,9 +337,9 @@ entries-returns-in_err-id-2 t c =
     let read : List (ℤ × Value) = entries c.loop.ids.items c.loop.fields.items in
     let wrong = next_stops R c.loop.rest.now c.in_ok-next.next.now c.in_err-id-2.field-0.0 c.in_ok-next.ensures c.in_err-id-2.ensures in
     let fails : Fails c.in_err-id-2.field-0.0 (mapped_read apart (items_at R close_brace s)) =
-        entries_stop R close_brace s c.in_err-id-2.field-0.0
-        (until_stops (next_at R) close_brace (length c.in_ok-id.rest.now) c.loop.counter c.loop.rest.now read c.in_err-id-2.field-0.0 (any_at R close_brace s) refl c.loop-test.true
-          (c.in_default-after.ensures.none refl) wrong c.loop.invariant.so_far) in
+    entries_stop R close_brace s c.in_err-id-2.field-0.0
+    (until_stops (next_at R) close_brace (length c.in_ok-id.rest.now) c.loop.counter c.loop.rest.now read c.in_err-id-2.field-0.0 (any_at R close_brace s) refl c.loop-test.true
+    (c.in_default-after.ensures.none refl) wrong c.loop.invariant.so_far) in
     search rules
 
 pub entries-returns : goal.entries-returns
