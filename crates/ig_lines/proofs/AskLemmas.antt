@@ -2,7 +2,8 @@
 use Rattle.std.proofs.Common.{◌≡◌, ℕ, ℤ, zero, suc, List, [], ◌∷◌, length, map, Result, Ok, Err, refl, sym, ap, ◌∙◌}
 use Rattle.ig_text.specs.declared.fault.ReadError.{ReadError}
 use Rattle.ig_text.specs.ReadText.{Read, ◌>>=◌, mapped_read}
-use Rattle.ig_text.specs.ReaderAnswers.{ReaderAnswers}
+use Rattle.ig_text.specs.declared.fault.ReadError.TheVariants as error
+use Rattle.ig_text.specs.ReaderAnswers.{Fails, ReaderAnswers}
 use Rattle.ig_text.specs.DescriptionText.{adjacent_at}
 use Rattle.ig_text.proofs.ReaderStopLemmas.{answers_by}
 use Rattle.ig_lines.specs.declared.line.LineAsk.{LineAsk}
@@ -121,3 +122,70 @@ word_is w v s is = ap (λ (u : Word). ask_of_word u s) is
 pub by_word : {X : Type 0} (view : X → LineAsk × List ℕ) (result : Result X ReadError) (w v : Word) (s : List ℕ) (R : List ℕ → Read (Held ℤ (shape v))) → w ≡ v → ReadsIds (shape v) R →
     ReaderAnswers view result (mapped_read (ask_with v) (R s)) → ReaderAnswers view result (ask_of_word w s)
 by_word view result w v s R is p h = answers_by view result (ask_of_word w s) (mapped_read (ask_with v) (R s)) (word_is w v s is ∙ asked v R p s) h
+
+-- what the arguments are read as, the word asks
+pub asks_read : (w : Word) (R : List ℕ → Read (Held ℤ (shape w))) → ReadsIds (shape w) R → (s rest : List ℕ) (x : Held ℤ (shape w)) → R s ≡ Ok (x, rest) → ask_of_word w s ≡ Ok (ask_with w x, rest)
+asks_read w R p s rest x e = asked w R p s ∙ ap (mapped_read (ask_with w)) e
+
+pub asks_stop : (w : Word) (R : List ℕ → Read (Held ℤ (shape w))) → ReadsIds (shape w) R → (s : List ℕ) (e : ReadError) → Fails e (R s) → Fails e (ask_of_word w s)
+asks_stop w R p s error.NoMemory f = tt
+asks_stop w R p s (error.Bad left) f = asked w R p s ∙ ap (mapped_read (ask_with w)) f
+
+-- ---- two arguments, one after the other
+
+pub both_read : {A B : Type 0} (R : List ℕ → Read A) (Q : List ℕ → Read B) (s t rest : List ℕ) (x : A) (y : B) → R s ≡ Ok (x, t) → Q t ≡ Ok (y, rest) → adjacent_at R Q s ≡ Ok ((x, y), rest)
+both_read R Q s t rest x y e f = rw (e, f) refl
+
+pub first_stops : {A B : Type 0} (R : List ℕ → Read A) (Q : List ℕ → Read B) (s : List ℕ) (e : ReadError) → Fails e (R s) → Fails e (adjacent_at R Q s)
+first_stops R Q s error.NoMemory f = tt
+first_stops R Q s (error.Bad left) f = rw f refl
+
+pub second_stops : {A B : Type 0} (R : List ℕ → Read A) (Q : List ℕ → Read B) (s t : List ℕ) (x : A) (e : ReadError) → R s ≡ Ok (x, t) → Fails e (Q t) → Fails e (adjacent_at R Q s)
+second_stops R Q s t x error.NoMemory r f = tt
+second_stops R Q s t x (error.Bad left) r f = rw (r, f) refl
+
+-- ---- the arguments of words
+
+abbrev pub cache_id_at : List ℕ → Read ℤ
+cache_id_at s = mapped_read id_of (argument_at cache s)
+
+pub key_ids : ReadsIds (both cache item) (adjacent_at cache_id_at (argument_at item))
+key_ids = both_ids cache item cache_id_at (argument_at item) cache_ids item_ids
+
+pub items_ids : ReadsIds (both item item) (adjacent_at (argument_at item) (argument_at item))
+items_ids = both_ids item item (argument_at item) (argument_at item) item_ids item_ids
+
+pub two_ids : ReadsIds (both cache (both item item)) (adjacent_at cache_id_at (adjacent_at (argument_at item) (argument_at item)))
+two_ids = both_ids cache (both item item) cache_id_at (adjacent_at (argument_at item) (argument_at item)) cache_ids items_ids
+
+pub three_ids : ReadsIds (both cache (both item (both item item))) (adjacent_at cache_id_at (adjacent_at (argument_at item) (adjacent_at (argument_at item) (argument_at item))))
+three_ids =
+    both_ids cache (both item (both item item)) cache_id_at (adjacent_at (argument_at item) (adjacent_at (argument_at item) (argument_at item))) cache_ids
+    (both_ids item (both item item) (argument_at item) (adjacent_at (argument_at item) (argument_at item)) item_ids items_ids)
+
+-- arguments up to the end
+abbrev pub all_at : {A : Type 0} → (List ℕ → Read A) → List ℕ → Read (List A)
+all_at R s = to_end_at R (length s) s
+
+pub keys_ids : ReadsIds (both cache (listed item)) (adjacent_at cache_id_at (all_at (argument_at item)))
+keys_ids = both_ids cache (listed item) cache_id_at (all_at (argument_at item)) cache_ids (listed_ids item (argument_at item) item_ids)
+
+pub pairs_ids : ReadsIds (both cache (listed pair)) (adjacent_at cache_id_at (all_at (argument_at pair)))
+pairs_ids = both_ids cache (listed pair) cache_id_at (all_at (argument_at pair)) cache_ids (listed_ids pair (argument_at pair) pair_ids)
+
+pub size_ids : ReadsIds (both cache (listed small)) (adjacent_at cache_id_at (all_at (argument_at small)))
+size_ids = both_ids cache (listed small) cache_id_at (all_at (argument_at small)) cache_ids (listed_ids small (argument_at small) small_ids)
+
+pub scan_ids : ReadsIds (both cache page) (adjacent_at cache_id_at (argument_at page))
+scan_ids = both_ids cache page cache_id_at (argument_at page) cache_ids page_ids
+
+pub type_name_ids : ReadsIds (both small type_id) (adjacent_at (argument_at small) (argument_at type_id))
+type_name_ids = both_ids small type_id (argument_at small) (argument_at type_id) small_ids type_ids
+
+pub set_type_name_ids : ReadsIds (both small (both type_id quoted_text)) (adjacent_at (argument_at small) (adjacent_at (argument_at type_id) (argument_at quoted_text)))
+set_type_name_ids =
+    both_ids small (both type_id quoted_text) (argument_at small) (adjacent_at (argument_at type_id) (argument_at quoted_text)) small_ids
+    (both_ids type_id quoted_text (argument_at type_id) (argument_at quoted_text) type_ids quoted_ids)
+
+pub parts_ids : ReadsIds (listed cache) (all_at cache_id_at)
+parts_ids = listed_ids cache cache_id_at cache_ids
