@@ -1,2 +1,6 @@
 pub mod ArgumentLemmas
+pub mod LinePlaceLemmas
 pub mod LineLemmas
+pub mod AskLemmas
+pub mod EndLoopLemmas
+pub mod ReadLineLemmas

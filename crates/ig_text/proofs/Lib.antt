@@ -6,11 +6,13 @@ pub mod RefusalLemmas
 pub mod ObjectTextLemmas
 pub mod LevelLemmas
 pub mod LoopLemmas
+pub mod PlaceLemmas
 pub mod WholeLemmas
 pub mod BoundLemmas
 pub mod ReaderLoopLemmas
 pub mod ReaderStopLemmas
 pub mod DescriptionLemmas
+pub mod DescriptionPlaceLemmas
 pub mod OrderLemmas
 pub mod ValueLemmas
 pub mod WriteLemmas

@@ -51,7 +51,7 @@ order_there : (m : TypeMeta) → IsInOrder m → is_in_order m ≡ true
 order_there m i =
     and_from (ascends by_field m.fields) (ascends by_literal m.literals && (ascends by_schema m.schemas && may_hold m)) (ascends_from by_field m.fields i.fields)
     (and_from (ascends by_literal m.literals) (ascends by_schema m.schemas && may_hold m) (ascends_from by_literal m.literals i.literals)
-      (and_from (ascends by_schema m.schemas) (may_hold m) (ascends_from by_schema m.schemas i.schemas) (enum_or m.is_enum m.literals i.no_literals)))
+    (and_from (ascends by_schema m.schemas) (may_hold m) (ascends_from by_schema m.schemas i.schemas) (enum_or m.is_enum m.literals i.no_literals)))
 
 order_is : (m : TypeMeta) → is_in_order m ≡ true → IsInOrder m
 order_is m e =

@@ -1,10 +1,12 @@
 -- A value is read by the row of its word, one level down.
 use Rattle.std.proofs.Common.{◌≡◌, ℕ, zero, suc, ◌+◌, ◌-◌, ◌*◌, ◌<◌, ◌≤◌, List, [], ◌∷◌, ◌++◌, length, drop, map, Option, Some, None, Result, Ok, Err, ℤ, refl, sym, ap, subst, ◌∙◌, arith, length-append}
+use Rattle.ig_value.specs.declared.code.Code.{Code}
 use Rattle.ig_value.specs.declared.value.Value.{Value}
 use Rattle.ig_text.specs.declared.row.Row.{Row}
+use Rattle.ig_text.specs.declared.row.Row.TheVariants.{Kind}
 use Rattle.ig_text.specs.declared.fault.ReadError.{ReadError}
 use Rattle.ig_text.specs.ReadText.{Read, mapped_read, alone, known_at, content_at, value_at}
-use Rattle.ig_text.specs.ReaderAnswers.{ReaderAnswers}
+use Rattle.ig_text.specs.ReaderAnswers.{Fails, ReaderAnswers}
 use Rattle.ig_text.specs.Words.{word, row_at}
 use Rattle.ig_text.proofs.LevelLemmas.{row_begins}
 
@@ -38,3 +40,16 @@ told view result r q e h = subst (λ (z : Read _). ReaderAnswers view result z) 
 pub listed : {A : Type 0} (f : Unit {0} × List A → Value) (r : Read (List A)) → mapped_read (λ xs. f (alone xs)) r ≡ mapped_read f (mapped_read alone r)
 listed f (Ok x) = refl
 listed f (Err left) = refl
+
+-- ---- the row of a code
+
+pub code_at : (levels : ℕ) (s : List ℕ) (c d : Code) → c ≡ d → content_at (value_at levels) (Kind c) s ≡ content_at (value_at levels) (Kind d) s
+code_at levels s c d is = ap (λ (k : Code). content_at (value_at levels) (Kind k) s) is
+
+-- what the content of a code is read as
+pub by_code : {X : Type 0} (view : X → Value × List ℕ) (result : Result X ReadError) (levels : ℕ) (s : List ℕ) (c d : Code) → c ≡ d → ReaderAnswers view result (content_at (value_at levels) (Kind d) s) →
+    ReaderAnswers view result (content_at (value_at levels) (Kind c) s)
+by_code view result levels s c d is h = told view result (content_at (value_at levels) (Kind d) s) (content_at (value_at levels) (Kind c) s) (sym (code_at levels s c d is)) h
+
+pub code_stops : (levels : ℕ) (s : List ℕ) (c d : Code) (e : ReadError) → c ≡ d → Fails e (content_at (value_at levels) (Kind d) s) → Fails e (content_at (value_at levels) (Kind c) s)
+code_stops levels s c d e is h = subst (λ (r : Read Value). Fails e r) (sym (code_at levels s c d is)) h

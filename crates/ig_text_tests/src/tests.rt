@@ -210,7 +210,7 @@ fn first_lost_description(alloc: Global, texts: &[&'static str]) -> Option<&'sta
 /// Whether the text is no description's from this offset on.
 fn is_no_description_at(alloc: Global, text: &str, at: usize) -> bool {
     match TypeMeta::read(alloc, text.as_bytes()) {
-        Err(ReadError::Bad { left }) => text.len() - left == at,
+        Err(ReadError::Bad { left }) => text.len().checked_sub(left) == Some(at),
         _ => false,
     }
 }

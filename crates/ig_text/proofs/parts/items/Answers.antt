@@ -18,9 +18,9 @@ returns-in_err-next g c =
     let s : List ℕ = c.args.text.now in
     let wrong = comma_stops R c.loop.rest.now c.in_err-next.field-0.0 c.in_err-next.ensures in
     let fails : Fails c.in_err-next.field-0.0 (items_at R c.args.close s) =
-        items_stop R c.args.close s c.in_err-next.field-0.0
-        (until_stops (next_at R) c.args.close (length c.in_ok-first.rest.now) c.loop.counter c.loop.rest.now c.loop.read.items c.in_err-next.field-0.0 (any_at R c.args.close s) refl c.loop-test.true
-          (c.in_default-after.ensures.none refl) wrong c.loop.invariant) in
+    items_stop R c.args.close s c.in_err-next.field-0.0
+    (until_stops (next_at R) c.args.close (length c.in_ok-first.rest.now) c.loop.counter c.loop.rest.now c.loop.read.items c.in_err-next.field-0.0 (any_at R c.args.close s) refl c.loop-test.true
+    (c.in_default-after.ensures.none refl) wrong c.loop.invariant) in
     search rules
 
 pub returns-in_err-item : goal.returns-in_err-item
@@ -29,9 +29,9 @@ returns-in_err-item g c =
     let s : List ℕ = c.args.text.now in
     let wrong = next_stops R c.loop.rest.now c.in_ok-next.next.now c.in_err-item.field-0.0 c.in_ok-next.ensures c.in_err-item.ensures in
     let fails : Fails c.in_err-item.field-0.0 (items_at R c.args.close s) =
-        items_stop R c.args.close s c.in_err-item.field-0.0
-        (until_stops (next_at R) c.args.close (length c.in_ok-first.rest.now) c.loop.counter c.loop.rest.now c.loop.read.items c.in_err-item.field-0.0 (any_at R c.args.close s) refl c.loop-test.true
-          (c.in_default-after.ensures.none refl) wrong c.loop.invariant) in
+    items_stop R c.args.close s c.in_err-item.field-0.0
+    (until_stops (next_at R) c.args.close (length c.in_ok-first.rest.now) c.loop.counter c.loop.rest.now c.loop.read.items c.in_err-item.field-0.0 (any_at R c.args.close s) refl c.loop-test.true
+    (c.in_default-after.ensures.none refl) wrong c.loop.invariant) in
     search rules
 
 pub loop-preserved : goal.loop-preserved

@@ -14,7 +14,7 @@ pub returns-in_err-byte : goal.returns-in_err-byte
 returns-in_err-byte c =
     let whole : Read (List ℕ) = until_at char_at quote (length c.args.text.now) c.args.text.now in
     let fails : Fails c.in_err-byte.field-0.0 whole =
-        until_stops char_at quote (length c.args.text.now) c.loop.counter c.loop.rest.now c.loop.bytes.items c.in_err-byte.field-0.0 whole refl c.loop-test.true (c.in_default.ensures.none refl) c.in_err-byte.ensures c.loop.invariant in
+    until_stops char_at quote (length c.args.text.now) c.loop.counter c.loop.rest.now c.loop.bytes.items c.in_err-byte.field-0.0 whole refl c.loop-test.true (c.in_default.ensures.none refl) c.in_err-byte.ensures c.loop.invariant in
     search rules
 
 pub loop-preserved : goal.loop-preserved

@@ -217,8 +217,8 @@ pub put_more_entries-returns-in_default : goal.put_more_entries-returns-in_defau
 put_more_entries-returns-in_default t c =
     on_ok_weaker c.push.result
     (λ e. e
-      ∙ entries_end close_brace (λ (entry : ℤ × Value). comma ∷ entry_text TextOf entry) c.args.ids.now c.args.fields.now c.loop-index.index c.loop-index.out
-      (c.args.out.now ++ until_text close_brace (λ (entry : ℤ × Value). comma ∷ entry_text TextOf entry) (entries c.args.ids.now c.args.fields.now)) c.in_default.ensures.lookup.3 c.loop-index.invariant) c.push.ensures.ok
+    ∙ entries_end close_brace (λ (entry : ℤ × Value). comma ∷ entry_text TextOf entry) c.args.ids.now c.args.fields.now c.loop-index.index c.loop-index.out
+    (c.args.out.now ++ until_text close_brace (λ (entry : ℤ × Value). comma ∷ entry_text TextOf entry) (entries c.args.ids.now c.args.fields.now)) c.in_default.ensures.lookup.3 c.loop-index.invariant) c.push.ensures.ok
 
 pub put_more_entries-put_entry-requires : goal.put_more_entries-put_entry-requires
 put_more_entries-put_entry-requires t c =
