@@ -11,6 +11,8 @@ mod MessageLemmas
 mod OperationLemmas
 mod ReadLemmas
 mod RequestLemmas
+mod ResultLemmas
 mod SaidLemmas
 mod SessionLemmas
+mod TurnLemmas
 mod WholeLemmas

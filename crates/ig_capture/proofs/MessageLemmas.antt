@@ -24,14 +24,15 @@ use Rattle.ig_lines.specs.declared.line.LineAsk.TheVariants as asks
 use Rattle.ig_lines.specs.Arguments.{space}
 use Rattle.ig_lines.specs.ShownText.{FaultText}
 use Rattle.ig_capture.specs.Requests.{Unanswered, with_request, taken}
+use Rattle.ig_capture.specs.Answers.{lacks_memory}
 use Rattle.ig_capture.specs.Talks.{Talk, Step, later_place, line_ask, asked_text, asked_operation, request_step, accepted_text, phase_after, greeted, told_text, content_text, replied, reply_for, reply_after}
 
 -- ---- requests
 
 -- the answer of reading a request, unless memory ran out
-pub read_right : (expected read : Result Request AskFault) → AnswersAs expected read → (read ≡ Err ask.NoMemory → ⊥) → expected ≡ read
+pub read_right : (expected read : Result Request AskFault) → AnswersAs expected read → lacks_memory read ≡ false → expected ≡ read
 read_right expected (Ok request) answers enough = answers
-read_right expected (Err ask.NoMemory) answers enough = absurd (enough refl)
+read_right expected (Err ask.NoMemory) answers enough = absurd (cc)
 read_right expected (Err ask.NotMine) answers enough = answers
 read_right expected (Err (ask.Unread place)) answers enough = answers
 read_right expected (Err (ask.Profile profile)) answers enough = answers
@@ -51,7 +52,7 @@ request_heard talk v body read id operation us text is ids operations added whol
     ∙ ap (λ (t : List ℕ). Ok (record talk { unanswered = us }, t)) line
 
 -- each call but the one for the pairs of caches is asked as it is
-other_call : (c : Call) → ((caches : List ℤ) → c ≡ call.Affinity caches → ⊥) → line_ask (Run c) ≡ asks.Ask (Run c)
+pub other_call : (c : Call) → ((caches : List ℤ) → c ≡ call.Affinity caches → ⊥) → line_ask (Run c) ≡ asks.Ask (Run c)
 other_call (call.Get cache key) never = refl
 other_call (call.GetAndRemove cache key) never = refl
 other_call (call.ContainsKey cache key) never = refl
@@ -84,8 +85,9 @@ other_call (call.TypeOf type_id) never = refl
 other_call (call.PutType meta) never = refl
 other_call (call.Affinity caches) never = absurd (never caches refl)
 
-pub other_ask : (request : Request) → ((caches : List ℤ) → request ≡ Run (call.Affinity caches) → ⊥) → line_ask request ≡ asks.Ask request
-other_ask (Run c) never = other_call c (λ caches is. never caches (ap Run is))
+-- and each other request
+pub other_ask : (request : Request) → ((c : Call) → request ≡ Run c → ⊥) → line_ask request ≡ asks.Ask request
+other_ask (Run c) never = absurd (never c refl)
 other_ask (Scan cache page) never = refl
 other_ask (NextPage cursor) never = refl
 other_ask (Close resource) never = refl

@@ -119,6 +119,10 @@ abbrev pub IsOther : Operation → Type 0
 IsOther operation.PartitionMaps = ⊥
 IsOther _ = Unit {0}
 
+pub other : (o : Operation) → (o ≡ operation.PartitionMaps → ⊥) → IsOther o
+other operation.PartitionMaps never = absurd (never refl)
+other _ never = tt
+
 pub rows_known : (o : Operation) → is_some (types_ask o) ≡ false → IsOther o → IsSome (rows_result o)
 rows_known operation.CloseResource is other = tt
 rows_known operation.Get is other = tt

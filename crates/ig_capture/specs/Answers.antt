@@ -1,8 +1,11 @@
 -- What the calls of this crate answer, by what they are said to do.
 use Rattle.std.specs.Prelude.{◌≡◌, ℕ, ◌<◌, ◌++◌, Bool, true, false, List, [], length, Result, Ok, Err}
 use Rattle.ig_wire.specs.Fields.{frame_place}
+use Rattle.ig_wire.specs.declared.ask.AskFault.{AskFault}
+use Rattle.ig_wire.specs.declared.ask.AskFault.TheVariants as ask
 use Rattle.ig_wire.specs.declared.unread.ReadFault.{ReadFault}
 use Rattle.ig_wire.specs.declared.unread.ReadFault.TheVariants as reads
+use Rattle.ig_caches.specs.declared.request.Request.{Request}
 use Rattle.ig_capture.specs.declared.fault.CaptureBad.{CaptureBad}
 use Rattle.ig_capture.specs.declared.fault.CaptureFault.{CaptureFault}
 use Rattle.ig_capture.specs.declared.fault.CaptureFault.TheVariants as fault
@@ -12,6 +15,11 @@ use Rattle.ig_capture.specs.Said.{Said, silent, and_then}
 use Rattle.ig_capture.specs.Talks.{Talk, Step, later_place}
 use Rattle.ig_capture.specs.Sessions.{Side, hear}
 use Rattle.ig_capture.specs.Reading.{Reading, Read}
+
+-- memory ran out for a request
+abbrev pub lacks_memory : Result Request AskFault → Bool
+lacks_memory (Err ask.NoMemory) = true
+lacks_memory asked = false
 
 -- a message was shown, unless memory ran out
 abbrev pub ShowsStep : Step → Talk → List ℕ → Result (Unit {0}) Stop → Type 0

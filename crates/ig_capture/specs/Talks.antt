@@ -117,10 +117,14 @@ abbrev pub greeted : Talk → Version → ℕ → List ℕ → Result HelloReply
 greeted talk v place body (Ok reply) = Ok (record talk { phase = phase_after v reply }, accepted_text reply)
 greeted talk v place body (Err left) = Err (later_place place (frame_place body left))
 
--- an acceptance of a version that isn't spoken is malformed at its frame
+-- an acceptance of a version that isn't spoken
+abbrev pub accepts_unspoken : Version → List ℕ → Bool
+accepts_unspoken v body = (slice_index body 0 == 1) && not (is_spoken v)
+
+-- it is malformed at its frame
 abbrev pub greeting_step : Talk → Version → ℕ → List ℕ → Step
 greeting_step talk v place body =
-    if (slice_index body 0 == 1) && not (is_spoken v) then Err place else greeted talk v place body (hello_reply_of v body)
+    if accepts_unspoken v body then Err place else greeted talk v place body (hello_reply_of v body)
 
 abbrev pub told_text : Option Topology → List ℕ
 told_text None = []

@@ -2,9 +2,10 @@
 
 ghost use Rattle.std.specs.Prelude.{◌≡◌, ◌≤◌, ◌<◌, ◌^◌, ◌++◌, [], length, OnOk};
 ghost use Rattle.ig_wire.specs.Greets.{version_at as version_read};
-ghost use Rattle.ig_capture.specs.Answers.{ShowsStep};
-ghost use Rattle.ig_capture.specs.Talks.{client_message, hello_step, request_step, hello_text, is_hello, asked_text, least};
+ghost use Rattle.ig_capture.specs.Answers.{ShowsStep, lacks_memory as has_no_memory};
+ghost use Rattle.ig_capture.specs.Talks.{client_message, hello_step, request_step, hello_text, is_hello as begins_as_hello, line_ask as asked_line, asked_text, least};
 ghost use Rattle.ig_caches.specs.declared.request.Request.{Request as a_request};
+ghost use Rattle.ig_caches.specs.declared.request.Request.TheVariants.{Run};
 ghost use Rattle.ig_wire.specs.declared.ask.AskFault.{AskFault as an_ask_fault};
 ghost use Rattle.ig_wire.specs.declared.ask.AskFault.TheVariants as faults;
 ghost use Rattle.ig_deals.specs.Faults.{refusal_of};
@@ -21,6 +22,14 @@ use ig_lines::{LineAsk, put_ask};
 use ig_text::PutText;
 use ig_wire::{AskFault, HELLO, LEAST_HELLO, Reason, THIN_CLIENT, Version};
 use std::alloc::Global;
+
+/// Whether a body begins as the hello of a thin client.
+fn is_hello(body: &[u8]) -> bool
+    requires { 8 ≤ length body.now }
+    ensures { result ≡ begins_as_hello body.now }
+{
+    body[0] == HELLO && body[7] == THIN_CLIENT
+}
 
 /// The version whose three numbers stand after a hello's first byte.
 fn hello_version(body: &[u8]) -> Version
@@ -60,6 +69,33 @@ fn refusal_status(fault: AskFault) -> i32
     reason.status()
 }
 
+/// Whether memory ran out for what is asked.
+fn lacks_memory(asked: &Result<Request, AskFault>) -> bool
+    ensures { result ≡ has_no_memory asked.now }
+{
+    matches!(asked, Err(AskFault::NoMemory))
+}
+
+/// The line that asks the same as a request.
+fn line_ask(request: Request) -> LineAsk
+    ensures { result ≡ asked_line request }
+{
+    match request {
+        Request::Run(call) => line_call(call),
+        request => LineAsk::Ask(request),
+    }
+}
+
+/// The line that asks the same as a call.
+fn line_call(call: Call) -> LineAsk
+    ensures { result ≡ asked_line (Run call) }
+{
+    match call {
+        Call::Affinity { caches } => LineAsk::Parts(caches),
+        call => LineAsk::Ask(Request::Run(call)),
+    }
+}
+
 /// Appends what is asked, or the status that it is refused with.
 fn put_asked(
     alloc: Global,
@@ -69,10 +105,7 @@ fn put_asked(
     ensures { OnOk result (text.new ≡ text.old ++ asked_text asked) }
 {
     match asked {
-        Ok(Request::Run(Call::Affinity { caches })) => {
-            put_ask(alloc, &LineAsk::Parts(caches), text)
-        }
-        Ok(request) => put_ask(alloc, &LineAsk::Ask(request), text),
+        Ok(request) => put_ask(alloc, &line_ask(request), text),
         Err(fault) => {
             text.append(b"refused ")?;
             refusal_status(fault).put(text)
@@ -107,7 +140,7 @@ impl Talk {
         requires empty { text.old ≡ [] }
         ensures { ShowsStep (hello_step self.old place body.now) self.new text.new result }
     {
-        if body[0] != HELLO || body[7] != THIN_CLIENT {
+        if !is_hello(body) {
             return Err(Stop::At { place });
         }
         let version = hello_version(body);
@@ -124,7 +157,7 @@ impl Talk {
         ensures { ShowsStep (request_step self.old version body.now) self.new text.new result }
     {
         let (id, operation, asked) = read_request(self.alloc, version, body);
-        if let Err(AskFault::NoMemory) = asked {
+        if lacks_memory(&asked) {
             return Err(Stop::NoMemory);
         }
         put_id(id, text)?;

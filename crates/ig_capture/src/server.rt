@@ -2,7 +2,7 @@
 
 ghost use Rattle.std.specs.Prelude.{◌≡◌, ◌≤◌, ◌++◌, [], drop, length, Option, OnOk};
 ghost use Rattle.ig_capture.specs.Answers.{ShowsStep, ShowsContent};
-ghost use Rattle.ig_capture.specs.Talks.{server_message, greeting_step, reply_after, accepted_text, phase_after as phase_read, told_text, content_text, least};
+ghost use Rattle.ig_capture.specs.Talks.{server_message, greeting_step, reply_after, accepted_text, phase_after as phase_read, told_text, content_text, accepts_unspoken as accepts_other, least};
 ghost use Rattle.ig_wire.specs.Heads.{head_of};
 
 use crate::phase::Phase;
@@ -18,6 +18,14 @@ use std::alloc::Global;
 
 /// The first byte of a reply that accepts the hello.
 const ACCEPTED: u8 = 1;
+
+/// Whether a reply to a hello accepts a version that isn't spoken.
+fn accepts_unspoken(version: Version, body: &[u8]) -> bool
+    requires { 1 ≤ length body.now }
+    ensures { result ≡ accepts_other version body.now }
+{
+    body[0] == ACCEPTED && !version.is_spoken()
+}
 
 /// Appends the text of the reply to a hello.
 fn put_greeting(reply: &HelloReply, text: &mut Octets) -> Result<(), NoMemory>
@@ -125,7 +133,7 @@ impl Talk {
         ensures { ShowsStep (greeting_step self.old version place body.now)
             self.new text.new result }
     {
-        if body[0] == ACCEPTED && !version.is_spoken() {
+        if accepts_unspoken(version, body) {
             return Err(Stop::At { place });
         }
         let reply = match read_hello_reply(self.alloc, version, body) {

@@ -1,0 +1,19 @@
+use Rattle.std.proofs.Common.{drop}
+use Rattle.ig_wire.specs.Heads.{head_of}
+use Rattle.ig_capture.proofs.TurnLemmas.{reply_unread, reply_not_asked, reply_is_heard}
+use Rattle.ig_capture.proofs.talk.Talk.hear_reply.Goals as goal
+
+pub returns-in-Err : goal.returns-in-Err
+returns-in-Err c = reply_unread _ _ _ c.self.view_is c.args.version c.args.place c.args.body.now c.in-Err.fault c.of.result c.args.self.now c.args.text.now c.in-Err.ensures c.of.ensures
+
+pub returns-in_default : goal.returns-in_default
+returns-in_default c =
+    reply_not_asked _ _ _ c.self.view_is c.args.place c.args.body.now c.in-Ok.head (drop c.in-Ok.at c.args.body.now) (head_of c.args.version c.args.body.now) c.in-Ok.ensures.1 c.take.new.self c.in_default.ensures
+
+pub put_content-requires : goal.put_content-requires
+put_content-requires c = c.in-Ok.ensures.0
+
+pub returns : goal.returns
+returns c =
+    reply_is_heard _ _ _ c.self.view_is c.args.place c.args.body.now c.in-Ok.head (drop c.in-Ok.at c.args.body.now) (head_of c.args.version c.args.body.now) c.in-Ok.ensures.1 c.take.new.self
+    c.in-Some.operation c.args.text.now c.put_id.new.out c.put_told.new.text c.put_content.new.text c.put_content.result c.in-Some.ensures c.requires.empty c.in_ok-put_id.ensures c.in_ok-put_told.ensures c.put_content.ensures
