@@ -1,5 +1,5 @@
 -- Hearing one frame of a side.
-use Rattle.std.proofs.Common.{◌≡◌, ℕ, ◌<◌, Bool, true, false, List, [], ◌++◌, length, Result, Ok, Err, refl, sym, ap, subst, ◌∙◌, append-nil}
+use Rattle.std.proofs.Common.{◌≡◌, ℕ, ℤ, ◌<◌, Bool, true, false, List, [], ◌++◌, length, Result, Ok, Err, refl, sym, ap, subst, ◌∙◌, append-nil}
 use Rattle.ig_base.specs.Frames.{Front, Body, Bad, Incomplete}
 use Rattle.ig_frame.specs.Streams.{Stream, front_at, stream_after, stream_after_frame}
 use Rattle.ig_capture.specs.declared.fault.CaptureBad.{CaptureBad}
@@ -51,3 +51,40 @@ module _ (session : ℕ) (server : Bool) (stream : Stream) (talk : Talk) where
     hears_wrong next (fault.Bad why) shows =
         (shows.0, by_front session server this (Body body rest) found ∙ ap (λ (s : Said Side CaptureBad). and_then s (hear session server)) shows.1, shows.2)
     hears_wrong next fault.NoMemory shows = tt
+
+  -- ---- the same by what a look found
+
+  pub bad_here : (next : Side) (k : ℕ) (n : ℤ) (place : ℕ) (lines : List ℕ) → k ≡ least server talk.phase → place ≡ stream.place → front_at k stream ≡ Bad n
+      → HearsFrame session server this next lines lines (Err (fault.Bad (bad.Message session server place)))
+  bad_here next k n place lines is at found =
+      subst (λ (p : ℕ). HearsFrame session server this next lines lines (Err (fault.Bad (bad.Message session server p)))) (sym at)
+      (hears_bad next n lines (ap (λ (j : ℕ). front_at j stream) (sym is) ∙ found))
+
+  module _ (k place : ℕ) (body rest : List ℕ) (is : k ≡ least server talk.phase) (at : place ≡ stream.place) (found : front_at k stream ≡ Body body rest) (talk' : Talk) (lines lines' : List ℕ) where
+    abbrev ShowsAt : Result (Unit {0}) CaptureFault → Type 0
+    ShowsAt result = (s : Stream) → ShowsLines (step_line session server s (message talk server place body)) (record { stream = s; talk = talk' }) lines lines' result
+
+    found_least : front_at (least server talk.phase) stream ≡ Body body rest
+    found_least = ap (λ (j : ℕ). front_at j stream) (sym is) ∙ found
+
+    shown_there : (result : Result (Unit {0}) CaptureFault) → ShowsAt result → Shows body rest found_least talk' lines lines' result
+    shown_there result shows =
+        subst (λ (p : ℕ). ShowsLines (step_line session server (stream_after stream (Body body rest)) (message talk server p body)) (record { stream = stream_after stream (Body body rest); talk = talk' }) lines lines' result) at
+        (shows (stream_after stream (Body body rest)))
+
+    pub frame_here : (frames : Stream) → frames ≡ stream_after_frame k stream → ShowsAt (Ok tt) → HearsFrame session server this (record { stream = frames; talk = talk' }) lines lines' (Ok true)
+    frame_here frames passed shows =
+        hears_frame body rest found_least talk' lines lines' frames (passed ∙ ap (λ (j : ℕ). stream_after_frame j stream) is) (shown_there (Ok tt) shows)
+
+    pub wrong_here : (next : Side) (e : CaptureFault) → ShowsAt (Err e) → HearsFrame session server this next lines lines' (Err e)
+    wrong_here next e shows = hears_wrong body rest found_least talk' lines lines' next e (shown_there (Err e) shows)
+
+-- a frame that is passed leaves the limit
+after_limit : (s : Stream) (f : Front) → (stream_after s f).limit ≡ s.limit
+after_limit s (Body body rest) = refl
+after_limit s (Bad n) = refl
+after_limit s (Incomplete n) = refl
+
+pub limit_stays : (k : ℕ) (s : Stream) → (stream_after_frame k s).limit ≡ s.limit
+unfolding stream_after_frame
+limit_stays k s = after_limit s (front_at k s)

@@ -7,6 +7,7 @@ use Rattle.std.specs.Int.{w32}
 use Rattle.ig_base.specs.Numbers.{number_at}
 use Rattle.ig_capture.specs.declared.fault.CaptureBad.{CaptureBad}
 use Rattle.ig_capture.specs.declared.fault.CaptureBad.TheVariants as bad
+use Rattle.ig_capture.specs.declared.fault.CaptureFault.{CaptureFault}
 use Rattle.ig_capture.specs.declared.fault.CaptureFault.TheVariants as fault
 use Rattle.ig_capture.specs.declared.field.Field.{Field}
 use Rattle.ig_capture.specs.declared.field.Field.TheVariants.{Magic, Side, Session, Count, Bytes}
@@ -87,3 +88,8 @@ module _ (server : Bool) (session count left : ℕ) (r : Reading) (is : r.field 
   run_wrong (byte ∷ s) zero heard new lines lines' why some low high shows = absurd (omega (arith, some))
   run_wrong (byte ∷ s) (suc k) heard new lines lines' why some low high shows =
       (suc k, shows.0, run_of k byte s low (omega (arith, high)) ∙ ap (λ (x : Said (List state.Session) CaptureBad). and_then x (left_after server session count left (suc k) r)) shows.1, shows.2)
+
+  pub run_stopped : (piece : List ℕ) (n : ℕ) (heard : List state.Session) (new : Reading) (lines lines' : List ℕ) (e : CaptureFault) → 0 < n → n ≤ left → n ≤ length piece
+      → ShowsLines (hear_at r.sessions session server (take n piece)) heard lines lines' (Err e) → ReadsSome piece r new lines lines' (Err e)
+  run_stopped piece n heard new lines lines' (fault.Bad why) some low high shows = run_wrong piece n heard new lines lines' why some low high shows
+  run_stopped piece n heard new lines lines' fault.NoMemory some low high shows = tt

@@ -81,3 +81,8 @@ first_taken us es ds fs id first next later all others is some rest whole out in
     ap (taken_first id us) here
     ∙ ap (λ (m : Unanswered). Some (first, m)) (ap (λ (m : Unanswered). insert m id (next ∷ later)) (sym is) ∙ ap (insert (from_entries es) id) (sym rest)
     ∙ sym (added es fs id others (changed_again es ds fs id None others out in_again)))
+
+-- what isn't something is nothing
+pub not_some : (o : Option Operations) → ((w : Operations) → o ≡ Some w → ⊥) → None ≡ o
+not_some None never = refl
+not_some (Some w) never = absurd (never w refl)

@@ -1,5 +1,5 @@
 -- Sessions by number, and what they hear.
-use Rattle.std.proofs.Common.{◌≡◌, ℕ, zero, suc, ◌+◌, ◌-◌, ◌≤◌, ◌<◌, List, [], ◌∷◌, ◌++◌, length, replicate, refl, sym, ap, subst, ◌∙◌, arith, append-nil}
+use Rattle.std.proofs.Common.{◌≡◌, ℕ, zero, suc, ◌+◌, ◌-◌, ◌≤◌, ◌<◌, List, [], ◌∷◌, ◌++◌, length, length-append, replicate, refl, sym, ap, subst, ◌∙◌, arith, append-nil, append_assoc}
 use Rattle.std.specs.Prelude.{Bool, true, false, Result, Ok, Err, slice_index_or, slice_set}
 use Rattle.ig_capture.specs.declared.fault.CaptureBad.{CaptureBad}
 use Rattle.ig_capture.specs.declared.fault.CaptureFault.{CaptureFault}
@@ -72,3 +72,20 @@ session_heard number s false bytes stream next lines lines' result is shows =
 session_heard number s true bytes stream next lines lines' result is shows =
     shows_with (hear number true (longer_side (side_of s true) bytes)) (with_side s true) next lines lines' result
     (subst (λ (t : Stream). ShowsLines (hear number true (record { stream = t; talk = s.talk })) next lines lines' result) is shows)
+
+-- ---- room for one more
+
+replicate_end : (k : ℕ) → replicate k fresh_session ++ fresh_session ∷ [] ≡ replicate (suc k) fresh_session
+replicate_end zero = refl
+replicate_end (suc k) = ap (λ (l : List Session). fresh_session ∷ l) (replicate_end k)
+
+pub one_longer : (now new : List Session) (s : Session) → new ≡ now ++ s ∷ [] → length new ≡ suc (length now)
+one_longer now new s one = ap length one ∙ length-append now (s ∷ []) ∙ omega arith
+
+pub room_added : (old now new : List Session) (s : Session) → now ≡ old ++ replicate (length now - length old) fresh_session → length old ≤ length now → new ≡ now ++ s ∷ [] → s ≡ fresh_session
+    → new ≡ old ++ replicate (length new - length old) fresh_session
+room_added old now new s is long one fresh =
+    let size : suc (length now - length old) ≡ length new - length old = omega (arith, long, one_longer now new s one) in
+    one ∙ ap (λ (t : Session). now ++ t ∷ []) fresh ∙ ap (λ (l : List Session). l ++ fresh_session ∷ []) is
+    ∙ append_assoc old (replicate (length now - length old) fresh_session) (fresh_session ∷ [])
+    ∙ ap (λ (l : List Session). old ++ l) (replicate_end (length now - length old)) ∙ ap (λ (k : ℕ). old ++ replicate k fresh_session) size

@@ -20,10 +20,18 @@ fn side_name(server: bool) -> &'static [u8]
 pub(crate) fn put_wrong(bad: CaptureBad, out: &mut Octets) -> Result<(), NoMemory>
     ensures { OnOk result (out.new ≡ out.old ++ ends.wrong_line bad) }
 {
+    put_wrong_place(bad, out)?;
+    out.push(b'\n')
+}
+
+/// Appends what is malformed.
+fn put_wrong_place(bad: CaptureBad, out: &mut Octets) -> Result<(), NoMemory>
+    ensures { OnOk result (out.new ≡ out.old ++ ends.wrong_text bad) }
+{
     match bad {
         CaptureBad::Stream { place } => {
             out.append(b"malformed stream ")?;
-            put_number(place, out)?;
+            put_number(place, out)
         }
         CaptureBad::Message {
             session,
@@ -35,10 +43,9 @@ pub(crate) fn put_wrong(bad: CaptureBad, out: &mut Octets) -> Result<(), NoMemor
             out.append(b" side ")?;
             out.append(side_name(server))?;
             out.append(b" place ")?;
-            put_number(place, out)?;
+            put_number(place, out)
         }
     }
-    out.push(b'\n')
 }
 
 /// Appends a line for each frame that isn't whole.

@@ -95,7 +95,7 @@ impl Reading {
             return Ok(1);
         };
         let len = piece.len().min(left as usize);
-        hear_at(
+        match hear_at(
             self.alloc,
             session,
             server,
@@ -103,9 +103,13 @@ impl Reading {
             &mut self.sessions,
             text,
             lines,
-        )?;
-        self.fewer(server, session, count, left, len as u32);
-        Ok(len)
+        ) {
+            Ok(()) => {
+                self.fewer(server, session, count, left, len as u32);
+                Ok(len)
+            }
+            Err(fault) => Err(fault),
+        }
     }
 
     /// This many bytes of a record fewer are left.

@@ -67,7 +67,10 @@ fn hear_frame(
             }));
         }
         Next::Frame { place, body } => {
-            hear_message(session, server, place, body, talk, text, lines)?
+            match hear_message(session, server, place, body, talk, text, lines) {
+                Ok(()) => {}
+                Err(fault) => return Err(fault),
+            }
         }
     }
     frames.pass(least);
