@@ -83,6 +83,6 @@ first_taken us es ds fs id first next later all others is some rest whole out in
     ∙ sym (added es fs id others (changed_again es ds fs id None others out in_again)))
 
 -- what isn't something is nothing
-pub not_some : (o : Option Operations) → ((w : Operations) → o ≡ Some w → ⊥) → None ≡ o
+pub not_some : {A : Type 0} (o : Option A) → ((x : A) → o ≡ Some x → ⊥) → None ≡ o
 not_some None never = refl
-not_some (Some w) never = absurd (never w refl)
+not_some (Some x) never = absurd (never x refl)

@@ -1,5 +1,8 @@
-use Rattle.std.proofs.Common.{drop}
+use Rattle.std.proofs.Common.{Option, Some, None, sym, subst, drop}
+use Rattle.ig_wire.specs.declared.operation.Operation.{Operation}
 use Rattle.ig_wire.specs.Heads.{head_of}
+use Rattle.ig_capture.specs.Requests.{TakesFirst}
+use Rattle.ig_capture.proofs.RequestLemmas.{not_some}
 use Rattle.ig_capture.proofs.TurnLemmas.{reply_unread, reply_not_asked, reply_is_heard}
 use Rattle.ig_capture.proofs.talk.Talk.hear_reply.Goals as goal
 
@@ -8,7 +11,8 @@ returns-in-Err c = reply_unread _ _ _ c.self.view_is c.args.version c.args.place
 
 pub returns-in_default : goal.returns-in_default
 returns-in_default c =
-    reply_not_asked _ _ _ c.self.view_is c.args.place c.args.body.now c.in-Ok.head (drop c.in-Ok.at c.args.body.now) (head_of c.args.version c.args.body.now) c.in-Ok.ensures.1 c.take.new.self c.in_default.ensures
+    reply_not_asked _ _ _ c.self.view_is c.args.place c.args.body.now c.in-Ok.head (drop c.in-Ok.at c.args.body.now) (head_of c.args.version c.args.body.now) c.in-Ok.ensures.1 c.take.new.self
+    (subst (λ (o : Option (Option Operation)). TakesFirst c.in-Ok.head.id c.self.inside.unanswered c.take.new.self o) (sym (not_some c.in_ok-operation.field-0 c.in_default.not-Some)) c.in_ok-operation.ensures)
 
 pub put_content-requires : goal.put_content-requires
 put_content-requires c = c.in-Ok.ensures.0
@@ -16,4 +20,5 @@ put_content-requires c = c.in-Ok.ensures.0
 pub returns : goal.returns
 returns c =
     reply_is_heard _ _ _ c.self.view_is c.args.place c.args.body.now c.in-Ok.head (drop c.in-Ok.at c.args.body.now) (head_of c.args.version c.args.body.now) c.in-Ok.ensures.1 c.take.new.self
-    c.in-Some.operation c.args.text.now c.put_id.new.out c.put_told.new.text c.put_content.new.text c.put_content.result c.in-Some.ensures c.requires.empty c.in_ok-put_id.ensures c.in_ok-put_told.ensures c.put_content.ensures
+    c.in-Some.operation c.args.text.now c.put_id.new.out c.put_told.new.text c.put_content.new.text c.put_content.result
+    (subst (λ (o : Option (Option Operation)). TakesFirst c.in-Ok.head.id c.self.inside.unanswered c.take.new.self o) c.in-Some.is c.in_ok-operation.ensures) c.requires.empty c.in_ok-put_id.ensures c.in_ok-put_told.ensures c.put_content.ensures
