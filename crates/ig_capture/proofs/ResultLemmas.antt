@@ -61,12 +61,12 @@ module _ (o : Operation) (place : ℕ) (body : List ℕ) (at : ℕ) where
   rows_form : (form : ResultForm Shown) → rows_result o ≡ Some form → text_form o ≡ Some (printed ShownText form)
   rows_form form is =
       ap (λ (r : Option (ResultForm Shown)). option_or (option_map (printed ShownText) r)
-        (option_or (option_map (printed ShownText) (types_result o)) (option_map (λ ask. printed MapText parts.map_form) (parts.ask_of o)))) is
+      (option_or (option_map (printed ShownText) (types_result o)) (option_map (λ ask. printed MapText parts.map_form) (parts.ask_of o)))) is
 
   types_form : (form : ResultForm Shown) → types_result o ≡ Some form → rows_result o ≡ None → text_form o ≡ Some (printed ShownText form)
   types_form form is alone =
       ap (λ (r : Option (ResultForm Shown)). option_or (option_map (printed ShownText) r)
-        (option_or (option_map (printed ShownText) (types_result o)) (option_map (λ ask. printed MapText parts.map_form) (parts.ask_of o)))) alone
+      (option_or (option_map (printed ShownText) (types_result o)) (option_map (λ ask. printed MapText parts.map_form) (parts.ask_of o)))) alone
       ∙ ap (λ (r : Option (ResultForm Shown)). option_or (option_map (printed ShownText) r) (option_map (λ ask. printed MapText parts.map_form) (parts.ask_of o))) is
 
   in_form : (form : Option (ResultForm (List ℕ))) (old new : List ℕ) (result : Result (Unit {0}) Stop) → text_form o ≡ form

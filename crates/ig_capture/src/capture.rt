@@ -86,7 +86,13 @@ impl Capture {
         if let Some(fault) = self.stopped {
             return Err(fault);
         }
-        match show(&mut self.reading, piece, &mut self.text, &mut self.lines, out) {
+        match show(
+            &mut self.reading,
+            piece,
+            &mut self.text,
+            &mut self.lines,
+            out,
+        ) {
             Ok(()) => Ok(()),
             Err(fault) => {
                 self.stopped = Some(fault);

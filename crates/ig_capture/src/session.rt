@@ -65,10 +65,24 @@ impl Session {
     {
         if server {
             self.from_server.feed(bytes)?;
-            hear(number, true, &mut self.from_server, &mut self.talk, text, lines)
+            hear(
+                number,
+                true,
+                &mut self.from_server,
+                &mut self.talk,
+                text,
+                lines,
+            )
         } else {
             self.from_client.feed(bytes)?;
-            hear(number, false, &mut self.from_client, &mut self.talk, text, lines)
+            hear(
+                number,
+                false,
+                &mut self.from_client,
+                &mut self.talk,
+                text,
+                lines,
+            )
         }
     }
 

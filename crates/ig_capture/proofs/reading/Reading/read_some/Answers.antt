@@ -13,8 +13,8 @@ returns-in-Ok c =
     let high : c.min-len.result ≤ length c.args.piece.now = omega (arith, c.min-len.ensures) in
     subst (λ (x : readings.Reading). ReadsSome c.args.piece.now c.args.self.now x c.args.lines.now c.hear_at.new.lines (Ok c.min-len.result)) (sym c.fewer.ensures)
     (subst (λ (x : readings.Reading). ReadsSome c.args.piece.now x
-      (readings.fewer_left c.in-Bytes.server c.in-Bytes.session c.in-Bytes.count c.in-Bytes.left c.min-len.result (record r { sessions = c.hear_at.new.sessions.items })) c.args.lines.now c.hear_at.new.lines (Ok c.min-len.result)) c.self.view_is
-      (run_some c.in-Bytes.server c.in-Bytes.session c.in-Bytes.count c.in-Bytes.left r c.in-Bytes.is c.args.piece.now c.min-len.result c.hear_at.new.sessions.items c.args.lines.now c.hear_at.new.lines some low high c.in-Ok.ensures))
+    (readings.fewer_left c.in-Bytes.server c.in-Bytes.session c.in-Bytes.count c.in-Bytes.left c.min-len.result (record r { sessions = c.hear_at.new.sessions.items })) c.args.lines.now c.hear_at.new.lines (Ok c.min-len.result)) c.self.view_is
+    (run_some c.in-Bytes.server c.in-Bytes.session c.in-Bytes.count c.in-Bytes.left r c.in-Bytes.is c.args.piece.now c.min-len.result c.hear_at.new.sessions.items c.args.lines.now c.hear_at.new.lines some low high c.in-Ok.ensures))
 
 pub returns-in-Err : goal.returns-in-Err
 returns-in-Err c =
@@ -25,4 +25,4 @@ returns-in-Err c =
     let high : c.min-len.result ≤ length c.args.piece.now = omega (arith, c.min-len.ensures) in
     subst (λ (x : readings.Reading). ReadsSome c.args.piece.now x (record r { sessions = c.hear_at.new.sessions.items }) c.args.lines.now c.hear_at.new.lines (Err c.in-Err.fault)) c.self.view_is
     (run_stopped c.in-Bytes.server c.in-Bytes.session c.in-Bytes.count c.in-Bytes.left r c.in-Bytes.is c.args.piece.now c.min-len.result c.hear_at.new.sessions.items (record r { sessions = c.hear_at.new.sessions.items })
-      c.args.lines.now c.hear_at.new.lines c.in-Err.fault some low high c.in-Err.ensures)
+    c.args.lines.now c.hear_at.new.lines c.in-Err.fault some low high c.in-Err.ensures)
