@@ -25,7 +25,7 @@ use Rattle.ig_capture.specs.declared.stop.Stop.{Stop}
 use Rattle.ig_capture.specs.declared.stop.Stop.TheVariants as stop
 use Rattle.ig_capture.specs.Requests.{Unanswered, with_request, taken, TakesFirst}
 use Rattle.ig_capture.specs.Answers.{lacks_memory, ShowsStep, ShowsContent, StopsAt}
-use Rattle.ig_capture.specs.Talks.{Talk, Step, is_hello, hello_text, hello_step, asked_text, asked_operation, request_step, accepts_unspoken, accepted_text, phase_after, greeted, greeting_step, told_text, content_text, reply_after}
+use Rattle.ig_capture.specs.Talks.{Talk, Step, is_hello, hello_text, hello_step, asked_text, asked_operation, request_step, accepts_unspoken, accepted_text, phase_after, greeted, greeting_step, told_text, content_text, reply_after, client_message, server_message, least}
 use Rattle.ig_capture.proofs.MessageLemmas.{read_right, request_heard, greeted_well, greeted_wrong, reply_wrong, reply_unasked, reply_shown, reply_stops}
 
 -- a text that is appended to nothing
@@ -111,3 +111,20 @@ module _ (phase : Phase) (us : Unanswered) (talk : Talk) (view : record { phase 
             ∙ ap (λ (t : Talk). Ok (record t { unanswered = us' }, new)) (sym view)
         go (Err (stop.At at)) x = reply_stops talk place body head s read is operation us' first_is x.0 at x.1 x.2
         go (Err stop.NoMemory) x = tt
+
+-- ---- by how far the session has come
+
+module _ (phase : Phase) (us : Unanswered) (talk : Talk) (view : record { phase = phase; unanswered = us } ≡ talk) (at : Phase) (is : phase ≡ at) where
+  phase_at : at ≡ talk.phase
+  phase_at = sym is ∙ ap (λ (t : Talk). t.phase) view
+
+  pub client_at : (place : ℕ) (body : List ℕ) (talk' : Talk) (text : List ℕ) (result : Result (Unit {0}) Stop) → ShowsStep (client_message talk at place body) talk' text result
+      → ShowsStep (client_message talk talk.phase place body) talk' text result
+  client_at place body talk' text result = subst (λ (p : Phase). ShowsStep (client_message talk p place body) talk' text result) phase_at
+
+  pub server_at : (place : ℕ) (body : List ℕ) (talk' : Talk) (text : List ℕ) (result : Result (Unit {0}) Stop) → ShowsStep (server_message talk at place body) talk' text result
+      → ShowsStep (server_message talk talk.phase place body) talk' text result
+  server_at place body talk' text result = subst (λ (p : Phase). ShowsStep (server_message talk p place body) talk' text result) phase_at
+
+  pub least_at : (server : Bool) (n : ℕ) → least server talk.phase ≤ n → least server at ≤ n
+  least_at server n = subst (λ (p : Phase). least server p ≤ n) (sym phase_at)
