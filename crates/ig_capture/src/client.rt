@@ -130,7 +130,8 @@ impl Talk {
         match self.phase {
             Phase::Fresh => self.hear_hello(place, body, text),
             Phase::Talking(version) => self.hear_request(version, body, text),
-            Phase::Asked(_) | Phase::Closed => Err(Stop::At { place }),
+            Phase::Asked(_) => Err(Stop::At { place }),
+            Phase::Closed => Err(Stop::At { place }),
         }
     }
 

@@ -116,7 +116,8 @@ impl Talk {
         match self.phase {
             Phase::Asked(version) => self.hear_greeting(version, place, body, text),
             Phase::Talking(version) => self.hear_reply(version, place, body, text),
-            Phase::Fresh | Phase::Closed => Err(Stop::At { place }),
+            Phase::Fresh => Err(Stop::At { place }),
+            Phase::Closed => Err(Stop::At { place }),
         }
     }
 
