@@ -7,9 +7,9 @@ use crate::decode::decode;
 use crate::statuses::{NO_MEMORY, USAGE, decode_status, end_status, start_status};
 use crate::words::{is_decode, pipe_words};
 use ig_base::{NoMemory, Text};
-use ig_caches::Caches;
 use ig_link::{Sink, Source};
 use ig_session::{Alone, SessionCfg, serve_ends};
+use ig_shards::Shards;
 use std::alloc::Global;
 
 /// The session of a server that is node 0 of 1, with 1,024 partitions a cache.
@@ -18,6 +18,9 @@ const ONE_NODE: SessionCfg = SessionCfg {
     nodes: 1,
     parts: 1024,
 };
+
+/// The number of shards over which the rows are spread.
+const SHARDS: u32 = 64;
 
 /// Copies of the words, as names of caches.
 fn names_of(alloc: Global, words: &[String]) -> Result<Vec<Text>, NoMemory>
@@ -41,9 +44,9 @@ fn pipe<S: Source, K: Sink>(alloc: Global, words: &[String], source: &mut S, sin
     let Ok(names) = names_of(alloc, names) else {
         return NO_MEMORY;
     };
-    match Caches::start(alloc, names) {
-        Ok(caches) => {
-            let mut caller = Alone::new(caches);
+    match Shards::start(alloc, names, SHARDS) {
+        Ok(shards) => {
+            let mut caller = Alone::new(shards);
             end_status(serve_ends(alloc, &mut caller, source, sink, &ONE_NODE))
         }
         Err(fault) => start_status(fault),
