@@ -63,9 +63,12 @@ impl Unanswered {
             return Ok(None);
         };
         let (first, later) = waiting.split();
-        if let Some(later) = later {
-            self.requests.insert(id, later)?;
+        match later {
+            Some(later) => {
+                self.requests.insert(id, later)?;
+                Ok(Some(first))
+            }
+            None => Ok(Some(first)),
         }
-        Ok(Some(first))
     }
 }

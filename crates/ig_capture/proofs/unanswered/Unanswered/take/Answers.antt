@@ -19,20 +19,20 @@ returns-in_default c =
       ap (λ (es : List (ℤ × Operations)). from_entries {R = int_cmp} es) same ∙ c.self.view_is,
     )
 
-pub returns-in_ok-insert : goal.returns-in_ok-insert
-returns-in_ok-insert c =
+pub returns-in_ok-insert-in-Some-later : goal.returns-in_ok-insert-in-Some-later
+returns-in_ok-insert-in-Some-later c =
     let key : to_z w64 (of_z w64 c.args.id) ≡ c.args.id = to_z-of_z w64 c.args.id c.ranges.id in
     let splits : SplitsFirst c.in-Some.waiting c.split-first.result.0 (Some c.in-Some-later.later) =
     subst (λ (o : Option Operations). SplitsFirst c.in-Some.waiting c.split-first.result.0 o) c.in-Some-later.is c.split-first.ensures in
     ap (λ (k : ℤ). taken k c.args.self.now) (sym key)
     ∙ first_taken c.args.self.now c.self.inside.requests.entries c.remove.new.self.entries c.insert.new.self.entries (to_z w64 (of_z w64 c.args.id)) c.split-first.result.0 splits.0 splits.1 c.in-Some.waiting
-    c.in-Some-later.later c.self.view_is (sym c.in-Some.is ∙ c.remove.ensures.value) splits.2 splits.3 c.remove.ensures.updates.0 c.in_ok-insert.ensures.updates.0
+    c.in-Some-later.later c.self.view_is (sym c.in-Some.is ∙ c.remove.ensures.value) splits.2 splits.3 c.remove.ensures.updates.0 c.in_ok-insert-in-Some-later.ensures.updates.0
 
-pub returns-in_default-later : goal.returns-in_default-later
-returns-in_default-later c =
+pub returns-in-None : goal.returns-in-None
+returns-in-None c =
     let key : to_z w64 (of_z w64 c.args.id) ≡ c.args.id = to_z-of_z w64 c.args.id c.ranges.id in
     let splits : SplitsFirst c.in-Some.waiting c.split-first.result.0 None =
-    subst (λ (o : Option Operations). SplitsFirst c.in-Some.waiting c.split-first.result.0 o) (sym (not_some c.split-first.result.1 c.in_default-later.not-Some)) c.split-first.ensures in
+    subst (λ (o : Option Operations). SplitsFirst c.in-Some.waiting c.split-first.result.0 o) c.in-None.is c.split-first.ensures in
     ap (λ (k : ℤ). taken k c.args.self.now) (sym key)
     ∙ only_taken c.args.self.now c.self.inside.requests.entries c.remove.new.self.entries (to_z w64 (of_z w64 c.args.id)) c.split-first.result.0 c.in-Some.waiting c.self.view_is
     (sym c.in-Some.is ∙ c.remove.ensures.value) splits c.remove.ensures.updates.0
