@@ -84,6 +84,10 @@ rest_cut piece at n r =
     ∙ read_pieces r (take n (drop at piece)) (drop n (drop at piece))
     ∙ ap (λ (l : List ℕ). and_then (read_bytes r (take n (drop at piece))) (λ q. read_bytes q l)) (drop-drop n at piece ∙ ap (λ k. drop k piece) (omega arith))
 
+-- a piece from an offset on
+pub all_left : (piece : List ℕ) (at : ℕ) → take (length piece - at) (drop at piece) ≡ drop at piece
+all_left piece at = take_all (length piece - at) (drop at piece) (omega (arith, length-drop at piece))
+
 pub read_more : (piece rest : List ℕ) (at n : ℕ) (start now next : Reading) (lines lines' lines'' : List ℕ) → rest ≡ drop at piece
     → ReadSoFar piece at start now lines lines' → ReadsSome rest now next lines' lines'' (Ok n)
     → ReadSoFar piece (at + n) start next lines lines''
