@@ -1,4 +1,4 @@
-use Rattle.std.proofs.Common.{◌≡◌, ◌-◌, [], length}
+use Rattle.std.proofs.Common.{◌≡◌, ◌-◌, []}
 use Rattle.ig_wire.specs.Limits.{most_session_bytes, piece_bytes}
 use Rattle.ignite_thin.proofs.DecodeLemmas.{DecodedSoFar}
 use Rattle.ignite_thin.proofs.decode.decode.Given as goal
@@ -8,7 +8,7 @@ abbrev pub invariant-pieces : goal.invariant-pieces
 invariant-pieces g l = record {
   so_far : DecodedSoFar (g.S.Source.source l.fn.source) (g.S.Source.source l.source) (g.K.Sink.sink l.fn.sink) (g.K.Sink.sink l.sink) l.capture l.taken;
   none : l.text ≡ [];
-  room : length l.buf.items ≡ piece_bytes;
+  room : l.buf.len ≡ piece_bytes;
 }
 
 -- less of the limit is left
