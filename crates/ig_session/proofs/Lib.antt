@@ -37,4 +37,5 @@ pub mod SendLemmas
 pub mod ProgressLemmas
 pub mod AnswerAllLemmas
 pub mod ReplyLemmas
+pub mod CompleteLemmas
 pub mod LoopLemmas

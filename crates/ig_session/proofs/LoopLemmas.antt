@@ -1,5 +1,5 @@
 -- The loop of a session.
-use Rattle.std.proofs.Common.{◌≡◌, ℕ, ◌+◌, ◌<◌, ◌≤◌, Bool, true, false, List, [], ◌∷◌, ◌++◌, length, Ok, Err, refl, sym, ap, ◌∙◌, subst, arith}
+use Rattle.std.proofs.Common.{◌≡◌, inr, ℕ, ◌+◌, ◌<◌, ◌≤◌, Bool, true, false, List, [], ◌∷◌, ◌++◌, length, Ok, Err, refl, sym, ap, ◌∙◌, subst, arith}
 use Rattle.ig_base.specs.declared.entry.Entry.{Entry}
 use Rattle.ig_base.specs.Frames.{client, max_body, front, Incomplete}
 use Rattle.ig_base.proofs.FrameLemmas.{Begins-start}
@@ -13,7 +13,7 @@ use Rattle.ig_deals.specs.declared.end.SessionEnd.{SessionEnd}
 use Rattle.ig_deals.specs.declared.end.SessionEnd.TheVariants as ends
 use Rattle.ig_deals.specs.Deals.{Ran, entries_of}
 use Rattle.ig_deals.specs.Telling.{session_manner}
-use Rattle.ig_deals.specs.Serves.{Runs}
+use Rattle.ig_deals.specs.Serves.{Runs, Serves}
 use Rattle.ig_session.specs.Cfg.{IsCfg}
 use Rattle.ig_session.specs.States.{State, new_state}
 use Rattle.ig_session.specs.Comings.{Misses, coming, IsPaused}
@@ -23,6 +23,7 @@ use Rattle.ig_session.proofs.StandLemmas.{new_stands}
 use Rattle.ig_session.proofs.AskLemmas.{nothing_pending}
 use Rattle.ig_session.proofs.SinceLemmas.{held_not}
 use Rattle.ig_session.proofs.SoundLemmas.{new_sound}
+use Rattle.ig_session.proofs.CompleteLemmas.{completes}
 
 pub nothing_ran : (cfg : SessionCfg) → Runs cfg session_manner [] [] [] ends.NoMemory
 nothing_ran cfg = record {
@@ -51,6 +52,7 @@ module _ {C : Type 0} (stands : C → PlainCaches → List (Entry Call Answer) �
     writes = SinkAdvances-nothing sink;
     serves = record { ran = []; entries_are = refl; runs = nothing_ran cfg };
     caused = (refl, refl);
+    completes = λ bodies ended begins is_open. inr refl;
   }
 
   pub going_start : (caller : C) (source : SourceState) (sink : SinkState) → IsCfg cfg → Going stands seat cfg caller caller (new_state cfg) source source sink sink 0
@@ -132,21 +134,26 @@ module _ {C : Type 0} (stands : C → PlainCaches → List (Entry Call Answer) �
 
   pub take_ended : (a b : C) (s0 s1 : State) (x0 x1 x2 : SourceState) (y0 y1 : SinkState) (taken : ℕ) (end : SessionEnd) → Going stands seat cfg a b s0 x0 x1 y0 y1 taken
       → TakesPiece s0 s1 x1 x2 taken (Err end) → Served stands seat cfg a b x0 x2 y0 y1 end
-  take_ended a b s0 s1 x0 x1 x2 y0 y1 taken end going takes = record {
-    input = going.input ++ takes.bytes;
-    output = going.output;
-    entries = entries_of seat going.ran;
-    keeps = going.keeps;
-    takes = SourceAdvances-then going.takes takes.gives;
-    writes = going.writes;
-    serves = record {
-      ran = going.ran;
-      entries_are = refl;
-      runs = subst (λ (c : SessionCfg). Runs c session_manner (going.input ++ takes.bytes) going.output going.ran end) (takes.cfg ∙ going.cfg_is)
-          (takes.continues going.input going.ran going.output going.counts going.stands_for);
-    };
-    caused = caused_taking end taken x0 x1 x2 y0 y1 takes.cause going.takes.faults going.takes.holds going.is_open going.no_read_fault going.no_write_fault;
-  }
+  take_ended a b s0 s1 x0 x1 x2 y0 y1 taken end going takes =
+      let serves : Serves cfg seat (going.input ++ takes.bytes) going.output (entries_of seat going.ran) end = record {
+        ran = going.ran;
+        entries_are = refl;
+        runs = subst (λ (c : SessionCfg). Runs c session_manner (going.input ++ takes.bytes) going.output going.ran end) (takes.cfg ∙ going.cfg_is)
+            (takes.continues going.input going.ran going.output going.counts going.stands_for);
+      } in
+      let caused : IsCaused end x0 x2 y0 y1 =
+      caused_taking end taken x0 x1 x2 y0 y1 takes.cause going.takes.faults going.takes.holds going.is_open going.no_read_fault going.no_write_fault in
+      record {
+        input = going.input ++ takes.bytes;
+        output = going.output;
+        entries = entries_of seat going.ran;
+        keeps = going.keeps;
+        takes = SourceAdvances-then going.takes takes.gives;
+        writes = going.writes;
+        serves = serves;
+        caused = caused;
+        completes = completes cfg seat end x0 x2 y0 y1 (going.input ++ takes.bytes) going.output (entries_of seat going.ran) serves caused;
+      }
 
   write_failed_since : (y0 y1 y2 : SinkState) → WriteHasFailed y1 y2 → y0.faults ≤ y1.faults → (y0.holds ≡ true → y1.holds ≡ true) → WriteHasFailed y0 y2
   write_failed_since y0 y1 y2 failed up held = record {
@@ -169,6 +176,14 @@ module _ {C : Type 0} (stands : C → PlainCaches → List (Entry Call Answer) �
       → TakesPiece s0 s1 x1 x2 taken (Ok taken') → AnswersAll {A = A} stands seat b c s1 s2 y1 y2 (Err end) → Served stands seat cfg a c x0 x2 y0 y2 end
   answer_ended a b c s0 s1 s2 x0 x1 x2 y0 y1 y2 taken taken' end going takes answers =
       let took = takes.continues going.input going.ran going.output going.counts going.stands_for in
+      let serves : Serves cfg seat (going.input ++ takes.bytes) (going.output ++ answers.out) (entries_of seat (going.ran ++ answers.ran)) end = record {
+        ran = going.ran ++ answers.ran;
+        entries_are = refl;
+        runs = subst (λ (c : SessionCfg). Runs c session_manner (going.input ++ takes.bytes) (going.output ++ answers.out) (going.ran ++ answers.ran) end) (answers.cfg ∙ takes.cfg ∙ going.cfg_is)
+            (answers.continues (going.input ++ takes.bytes) going.ran going.output (omega (arith, took.0, takes.cause.1)) took.1);
+      } in
+      let caused : IsCaused end x0 x2 y0 y2 = caused_answering end x0 x2 y0 y1 y2 answers.cause going.writes.faults going.writes.holds
+      (open_since x0 x1 x2 takes.cause.2 going.no_read_fault) going.no_write_fault in
       record {
         input = going.input ++ takes.bytes;
         output = going.output ++ answers.out;
@@ -176,12 +191,7 @@ module _ {C : Type 0} (stands : C → PlainCaches → List (Entry Call Answer) �
         keeps = joins_keeps stands seat a b c going.ran answers.ran going.keeps answers.keeps;
         takes = SourceAdvances-then going.takes takes.gives;
         writes = SinkAdvances-then going.writes answers.gets;
-        serves = record {
-          ran = going.ran ++ answers.ran;
-          entries_are = refl;
-          runs = subst (λ (c : SessionCfg). Runs c session_manner (going.input ++ takes.bytes) (going.output ++ answers.out) (going.ran ++ answers.ran) end) (answers.cfg ∙ takes.cfg ∙ going.cfg_is)
-              (answers.continues (going.input ++ takes.bytes) going.ran going.output (omega (arith, took.0, takes.cause.1)) took.1);
-        };
-        caused = caused_answering end x0 x2 y0 y1 y2 answers.cause going.writes.faults going.writes.holds
-            (open_since x0 x1 x2 takes.cause.2 going.no_read_fault) going.no_write_fault;
+        serves = serves;
+        caused = caused;
+        completes = completes cfg seat end x0 x2 y0 y2 (going.input ++ takes.bytes) (going.output ++ answers.out) (entries_of seat (going.ran ++ answers.ran)) serves caused;
       }

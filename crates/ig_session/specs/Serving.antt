@@ -1,6 +1,7 @@
 -- What serving a session does, as a whole and in each round of its loop.
-use Rattle.std.specs.Prelude.{◌≡◌, ℕ, ◌<◌, ◌≤◌, true, false, List, [], ◌++◌, length, Some, Result, Ok, Err}
+use Rattle.std.specs.Prelude.{◌≡◌, ◌⊎◌, ℕ, ◌<◌, ◌≤◌, true, false, List, [], ◌++◌, length, Some, Result, Ok, Err}
 use Rattle.ig_base.specs.declared.entry.Entry.{Entry}
+use Rattle.ig_base.specs.Frames.{client, Begins}
 use Rattle.ig_link.specs.States.{SourceState, SinkState, Rose, SourceAdvances, SinkAdvances}
 use Rattle.ig_wire.specs.Limits.{most_session_bytes}
 use Rattle.ig_caches.specs.declared.call.Call.{Call}
@@ -11,7 +12,7 @@ use Rattle.ig_deals.specs.declared.end.SessionEnd.{SessionEnd}
 use Rattle.ig_deals.specs.declared.end.SessionEnd.TheVariants as ends
 use Rattle.ig_deals.specs.Deals.{Got, Ran, entry_of, entries_of}
 use Rattle.ig_deals.specs.Telling.{session_manner}
-use Rattle.ig_deals.specs.Serves.{Runs, Serves}
+use Rattle.ig_deals.specs.Serves.{IsOpen, Runs, Serves}
 use Rattle.ig_replies.specs.Showing.{waiting_none, bytes_left}
 use Rattle.ig_session.specs.Histories.{StandsOn}
 use Rattle.ig_session.specs.States.{State}
@@ -156,8 +157,16 @@ SinkAt ends.NoMemory old new = new.faults ≡ old.faults
 abbrev pub IsCaused : SessionEnd → SourceState → SourceState → SinkState → SinkState → Type 0
 IsCaused end source source' sink sink' = SourceAt end source source' × SinkAt end sink sink'
 
+-- Where the source has ended, a hello was accepted and no bytes come after the last frame, the session ended well, or
+-- memory ran out.
+abbrev pub Completes : SourceState → List ℕ → SessionEnd → Type 0
+Completes source' input end =
+    (bodies : List (List ℕ)) → source'.ended ≡ true → Begins client input bodies [] → IsOpen bodies
+    → (end ≡ ends.Ended) ⊎ (end ≡ ends.NoMemory)
+
 -- A session was served over a source and a sink: it took this input, wrote this output and added these entries to
--- whatever history the caller had.
+-- whatever history the caller had. The end has its cause, and is the good one where nothing stands in the way, memory
+-- aside.
 pub record Served {C : Type 0} (stands : C → PlainCaches → List (Entry Call Answer) → Type 0) (seat : ℕ) (cfg : SessionCfg) (caller caller' : C) (source source' : SourceState) (sink sink' : SinkState)
     (end : SessionEnd) : Type 0 where
   pub input : List ℕ
@@ -168,6 +177,7 @@ pub record Served {C : Type 0} (stands : C → PlainCaches → List (Entry Call 
   pub writes : SinkAdvances sink sink' output
   pub serves : Serves cfg seat input output entries end
   pub caused : IsCaused end source source' sink sink'
+  pub completes : Completes source' input end
 
 -- a session that goes on: what was taken, written and run so far, without a failed read or write
 pub record Going {C : Type 0} (stands : C → PlainCaches → List (Entry Call Answer) → Type 0) (seat : ℕ) (cfg : SessionCfg) (caller caller' : C) (state : State) (source source' : SourceState) (sink sink' : SinkState)

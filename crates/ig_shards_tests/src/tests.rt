@@ -285,11 +285,11 @@ fn difference(alloc: Global, shards: u32, calls: u32) -> Result<Option<u32>, All
 
 #[test]
 fn shards_answer_as_plain_caches(rt: HostRuntime) -> Result<(), Fail> {
-    assert_eq!(rt; difference(rt.alloc(), 1, 150)?, None);
-    assert_eq!(rt; difference(rt.alloc(), 2, 150)?, None);
-    assert_eq!(rt; difference(rt.alloc(), 5, 150)?, None);
-    assert_eq!(rt; difference(rt.alloc(), 64, 150)?, None);
-    assert_eq!(rt; difference(rt.alloc(), 256, 150)?, None);
+    assert_eq!(rt; difference(rt.alloc(), 1, 10_000)?, None);
+    assert_eq!(rt; difference(rt.alloc(), 2, 10_000)?, None);
+    assert_eq!(rt; difference(rt.alloc(), 5, 10_000)?, None);
+    assert_eq!(rt; difference(rt.alloc(), 64, 10_000)?, None);
+    assert_eq!(rt; difference(rt.alloc(), 256, 10_000)?, None);
     Ok(())
 }
 

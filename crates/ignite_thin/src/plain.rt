@@ -6,9 +6,9 @@ ghost use Rattle.ignite_thin.specs.Plain.{RunsPlain};
 use crate::statuses::{NO_MEMORY, USAGE, end_status, start_status};
 use crate::words::pipe_words;
 use ig_base::{NoMemory, Text};
-use ig_caches::Caches;
 use ig_link::{Sink, Source};
 use ig_session::{Alone, SessionCfg, serve_ends};
+use ig_shards::Shards;
 use std::alloc::Global;
 
 /// The session of a server that is node 0 of 1, with 1,024 partitions a cache.
@@ -17,6 +17,9 @@ const ONE_NODE: SessionCfg = SessionCfg {
     nodes: 1,
     parts: 1024,
 };
+
+/// The number of shards over which the rows are spread.
+const SHARDS: u32 = 64;
 
 /// Copies of the words, as names of caches.
 fn names_of(alloc: Global, words: &[String]) -> Result<Vec<Text>, NoMemory>
@@ -48,9 +51,9 @@ pub fn run_plain<S: Source, K: Sink>(
     let Ok(names) = names_of(alloc, names) else {
         return NO_MEMORY;
     };
-    match Caches::start(alloc, names) {
-        Ok(caches) => {
-            let mut caller = Alone::new(caches);
+    match Shards::start(alloc, names, SHARDS) {
+        Ok(shards) => {
+            let mut caller = Alone::new(shards);
             end_status(serve_ends(alloc, &mut caller, source, sink, &ONE_NODE))
         }
         Err(fault) => start_status(fault),

@@ -161,7 +161,7 @@ fn scan(
     Ok(pairs.as_slice().len())
 }
 
-fn kind(word: Option<&String>) -> Result<Kind> {
+fn kind_of(word: Option<&String>) -> Result<Kind> {
     let Some(word) = word else {
         return Ok(Kind::Int);
     };
@@ -185,7 +185,7 @@ fn main(rt: HostRuntime) -> Result<()> {
     for word in env::args(&rt)? {
         words.push(word)?;
     }
-    let kind = kind(words.as_slice().get(1))?;
+    let kind = kind_of(words.as_slice().get(1))?;
     let rows = number(words.as_slice(), 2, 1000)?;
     let shards = number(words.as_slice(), 3, 64)?;
     ensure!(shards >= 1 && shards <= 256, "1 to 256 shards");

@@ -1,6 +1,5 @@
 use Rattle.std.proofs.Common.{◌≡◌, ◌∙◌, List, [], ℕ, Option, map, string_bytes, refl, sym, ap, subst}
 use Rattle.ig_caches.specs.PlainCaches.{PlainCaches, fresh_caches}
-use Rattle.ig_caches.specs.CachesView.{plain_caches}
 use Rattle.ig_caches.specs.Starts.{CanStart, IsStartFault}
 use Rattle.ig_session.specs.StandsAlone.{StandsAlone}
 use Rattle.ignite_thin.specs.Plain.{RunsPipe, RunsPlain}
@@ -21,11 +20,15 @@ returns-in-Err g c =
     let runs = not_started (map string_bytes c.args.words.now) (map string_bytes c.in-Some.names.now) (g.S.Source.source c.args.source.now) (g.K.Sink.sink c.args.sink.now) c.in-Err.fault c.in-Some.ensures fault in
     subst (λ (n : ℕ). RunsPlain (map string_bytes c.args.words.now) (g.S.Source.source c.args.source.now) (g.S.Source.source c.args.source.now) (g.K.Sink.sink c.args.sink.now) (g.K.Sink.sink c.args.sink.now) n) (sym c.start_status.ensures) runs
 
+-- contracts see shards as the plain caches that they are together
+same : PlainCaches → PlainCaches
+same c = c
+
 pub returns-in-Ok-start : goal.returns-in-Ok-start
 returns-in-Ok-start g c =
     let names : List (List ℕ) = map string_bytes c.in-Some.names.now in
-    let stood : StandsAlone plain_caches c.new-caller.result (fresh_caches names) [] =
-    subst (λ (start : PlainCaches). StandsAlone plain_caches c.new-caller.result start []) (c.in-Ok-start.ensures.fresh ∙ ap fresh_caches c.in-Ok.ensures) c.new-caller.ensures in
+    let stood : StandsAlone same c.new-caller.result (fresh_caches names) [] =
+    subst (λ (start : PlainCaches). StandsAlone same c.new-caller.result start []) (c.in-Ok-start.ensures.fresh ∙ ap fresh_caches c.in-Ok.ensures) c.new-caller.ensures in
     let can : CanStart names = subst CanStart c.in-Ok.ensures c.in-Ok-start.ensures.starts in
     named (map string_bytes c.args.words.now) names (g.S.Source.source c.args.source.now) (g.S.Source.source c.serve_ends.new.source) (g.K.Sink.sink c.args.sink.now) (g.K.Sink.sink c.serve_ends.new.sink) c.end_status.result c.in-Some.ensures
-    (pipe_runs plain_caches c.new-caller.result c.serve_ends.new.caller names (g.S.Source.source c.args.source.now) (g.S.Source.source c.serve_ends.new.source) (g.K.Sink.sink c.args.sink.now) (g.K.Sink.sink c.serve_ends.new.sink) c.serve_ends.result c.end_status.result stood can c.serve_ends.ensures.served c.end_status.ensures)
+    (pipe_runs same c.new-caller.result c.serve_ends.new.caller names (g.S.Source.source c.args.source.now) (g.S.Source.source c.serve_ends.new.source) (g.K.Sink.sink c.args.sink.now) (g.K.Sink.sink c.serve_ends.new.sink) c.serve_ends.result c.end_status.result stood can c.serve_ends.ensures.served c.end_status.ensures)

@@ -1,0 +1,13 @@
+pub mod Fronts
+pub mod PendingState
+pub mod Coded
+pub mod RequestBodies
+pub mod Cutting
+pub mod Pairs
+pub mod LinkSince
+pub mod ChannelRun
+pub mod RunLaws
+pub mod Stands
+pub mod Steps
+pub mod Greeted
+pub mod Plain
