@@ -61,7 +61,18 @@ fn put_head(meta: &TypeMeta, out: &mut Octets) -> Result<(), NoMemory>
     out.push(b':')?;
     meta.affinity.put(out)?;
     out.push(b':')?;
-    out.push(if meta.is_enum { b'1' } else { b'0' })
+    put_is_enum(meta.is_enum, out)
+}
+
+/// Appends whether a type is an enum.
+fn put_is_enum(is_enum: bool, out: &mut Octets) -> Result<(), NoMemory>
+    ensures { OnOk result (out.new ≡ out.old ++ descriptions.enum_text is_enum) }
+{
+    if is_enum {
+        out.push(b'1')
+    } else {
+        out.push(b'0')
+    }
 }
 
 /// Appends parts between braces.
