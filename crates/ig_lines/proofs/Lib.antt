@@ -1,4 +1,5 @@
 pub mod ArgumentLemmas
+pub mod NameLemmas
 pub mod LinePlaceLemmas
 pub mod LineLemmas
 pub mod AskLemmas
