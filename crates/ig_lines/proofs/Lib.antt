@@ -5,3 +5,4 @@ pub mod LineLemmas
 pub mod AskLemmas
 pub mod EndLoopLemmas
 pub mod ReadLineLemmas
+pub mod WriteLineLemmas

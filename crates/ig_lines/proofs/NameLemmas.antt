@@ -1,5 +1,5 @@
 -- The name of a cache, and the word, that stand in front.
-use Rattle.std.proofs.Common.{◌≡◌, ◌<◌, ◌≤◌, ℕ, ℤ, zero, suc, Bool, true, w32, List, [], ◌∷◌, length, take, drop, Option, None, Some, Ok, Err, leb, refl, sym, ap, subst, ◌∙◌, arith}
+use Rattle.std.proofs.Common.{◌≡◌, ◌<◌, ◌≤◌, ℕ, ℤ, zero, suc, Bool, true, not, w32, List, [], ◌∷◌, length, take, drop, Option, None, Some, Ok, Err, eqb, leb, refl, sym, ap, subst, ◌∙◌, arith}
 use Rattle.std.specs.Int.{cast_signed}
 use Rattle.std.specs.Str.{IsAscii, IsUtf8}
 use Rattle.std.proofs.lemmas.Bool.{and_parts, leb-true}
@@ -9,7 +9,7 @@ use Rattle.ig_base.specs.Hashes.{Java, units}
 use Rattle.ig_text.specs.ReadText.{Read, mapped_read}
 use Rattle.ig_text.proofs.ReadsLemmas.{done}
 use Rattle.ig_lines.specs.declared.word.Word.{Word}
-use Rattle.ig_lines.specs.Arguments.{id_of, is_graphic, graphic_len, name_of}
+use Rattle.ig_lines.specs.Arguments.{space, id_of, is_graphic, graphic_len, name_of}
 use Rattle.ig_lines.specs.ReadLine.{word_found, word_front, word_len, word_at}
 use Rattle.ig_lines.specs.Words.{word_of}
 use Rattle.ig_lines.proofs.ArgumentLemmas.{AreGraphic, front_graphic}
@@ -52,6 +52,9 @@ pub name_there : (n : ℕ) (s bytes rest : List ℕ) → n ≡ graphic_len s →
 name_there n s bytes rest len front back some = ap (λ (k : ℕ). mapped_read id_of (name_of k s)) (sym len) ∙ some_of n s bytes rest front back some
 
 -- ---- a word
+
+pub word_within : (n : ℕ) (s : List ℕ) → n ≡ word_len s → n ≤ length s
+word_within n s len = subst (λ (k : ℕ). k ≤ length s) (sym len) (prefix_len-le-length (λ b. not (eqb b space)) s)
 
 -- the word that was found, or none
 word_by : (n : ℕ) (s front : List ℕ) (o : Option Word) → n ≡ word_len s → front ≡ take n s → o ≡ word_of front → word_at s ≡ word_found n s o
