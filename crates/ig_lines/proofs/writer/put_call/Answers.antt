@@ -48,7 +48,7 @@ pub returns-in-Replace : goal.returns-in-Replace
 returns-in-Replace c = on_ok_weaker c.put_two-in-Replace.result (λ e. e ∙ call_text c.args.call.now _ c.args.out.now c.in-Replace.is) c.put_two-in-Replace.ensures
 
 pub returns-in_ok-put_two-in-ReplaceIfEquals : goal.returns-in_ok-put_two-in-ReplaceIfEquals
-returns-in_ok-put_two-in-ReplaceIfEquals c = 
+returns-in_ok-put_two-in-ReplaceIfEquals c =
     on_ok_weaker c.put_spaced.result (λ e. put_after_three c.args.out.now c.put_two-in-ReplaceIfEquals.new.out c.put_spaced.new.out (text_of word.ReplaceIf) (space ∷ numbered_text c.in-ReplaceIfEquals.cache) (space ∷ TextOf c.in-ReplaceIfEquals.key) (space ∷ TextOf c.in-ReplaceIfEquals.wanted) (space ∷ TextOf c.in-ReplaceIfEquals.value) c.in_ok-put_two-in-ReplaceIfEquals.ensures e ∙ call_text c.args.call.now _ c.args.out.now c.in-ReplaceIfEquals.is) c.put_spaced.ensures
 
 pub returns-in-RemoveIfEquals : goal.returns-in-RemoveIfEquals
@@ -67,7 +67,7 @@ pub returns-in-RemoveKeys : goal.returns-in-RemoveKeys
 returns-in-RemoveKeys c = on_ok_weaker c.put_keys-in-RemoveKeys.result (λ e. e ∙ call_text c.args.call.now _ c.args.out.now (c.in-RemoveKeys.is ∙ ap (calls.RemoveKeys c.in-RemoveKeys.cache) (sym c.as_slice-in-RemoveKeys.ensures))) c.put_keys-in-RemoveKeys.ensures
 
 pub returns-in_ok-put_word-in-PutAll : goal.returns-in_ok-put_word-in-PutAll
-returns-in_ok-put_word-in-PutAll c = 
+returns-in_ok-put_word-in-PutAll c =
     on_ok_weaker c.put_pairs.result (λ e. put_after_one c.args.out.now c.put_word.new.out c.put_pairs.new.out (text_of word.PutAll) (space ∷ numbered_text c.in-PutAll.cache) (spaced pair_text c.as_slice-in-PutAll.result.now) c.in_ok-put_word-in-PutAll.ensures e ∙ call_text c.args.call.now _ c.args.out.now (c.in-PutAll.is ∙ ap (calls.PutAll c.in-PutAll.cache) (sym c.as_slice-in-PutAll.ensures))) c.put_pairs.ensures
 
 pub returns-in-Clear : goal.returns-in-Clear
@@ -80,7 +80,7 @@ pub returns-in-Scan : goal.returns-in-Scan
 returns-in-Scan c = sym (append-nil c.args.out.now) ∙ call_text c.args.call.now _ c.args.out.now c.in-Scan.is
 
 pub returns-in_ok-put_word-in-Size : goal.returns-in_ok-put_word-in-Size
-returns-in_ok-put_word-in-Size c = 
+returns-in_ok-put_word-in-Size c =
     on_ok_weaker c.put_smalls.result (λ e. put_after_one c.args.out.now c.put_word-in-Size.new.out c.put_smalls.new.out (text_of word.Size) (space ∷ numbered_text c.in-Size.cache) (spaced decimal c.as_slice-in-Size.result.now) c.in_ok-put_word-in-Size.ensures e ∙ call_text c.args.call.now _ c.args.out.now (c.in-Size.is ∙ ap (calls.Size c.in-Size.cache) (sym c.as_slice-in-Size.ensures))) c.put_smalls.ensures
 
 pub returns-in-Names : goal.returns-in-Names
@@ -99,7 +99,7 @@ pub returns-in-TypeName : goal.returns-in-TypeName
 returns-in-TypeName c = on_ok_weaker c.put_type.result (λ e. e ∙ call_text c.args.call.now _ c.args.out.now c.in-TypeName.is) c.put_type.ensures
 
 pub returns-in_ok-put_type-in-SetTypeName : goal.returns-in_ok-put_type-in-SetTypeName
-returns-in_ok-put_type-in-SetTypeName c = 
+returns-in_ok-put_type-in-SetTypeName c =
     on_ok_weaker c.put_spaced-in-SetTypeName.result (λ e. put_after_two c.args.out.now c.put_type-in-SetTypeName.new.out c.put_spaced-in-SetTypeName.new.out (text_of word.SetTypeName) (space ∷ decimal c.in-SetTypeName.platform) (space ∷ scalar_text i32 c.in-SetTypeName.type_id) (space ∷ quoted c.in-SetTypeName.name) c.in_ok-put_type-in-SetTypeName.ensures e ∙ call_text c.args.call.now _ c.args.out.now c.in-SetTypeName.is) c.put_spaced-in-SetTypeName.ensures
 
 pub returns-in-TypeOf : goal.returns-in-TypeOf
