@@ -80,14 +80,14 @@ name_reads =
 
 -- ---- caches
 
-abbrev AreGraphic : List ℕ → Type 0
+abbrev pub AreGraphic : List ℕ → Type 0
 AreGraphic bytes = AllByRecursion (λ b. is_graphic b ≡ true) bytes
 
 front_one : (b : ℕ) (bytes : List ℕ) (t : Bool) → is_graphic b ≡ t → AreGraphic bytes → AreGraphic (cond t (b ∷ bytes) [])
 front_one b bytes true is h = (is, h)
 front_one b bytes false is h = tt
 
-front_graphic : (s : List ℕ) → AreGraphic (take_while is_graphic s)
+pub front_graphic : (s : List ℕ) → AreGraphic (take_while is_graphic s)
 front_graphic [] = tt
 front_graphic (b ∷ s) = subst AreGraphic (sym (take_while-cons is_graphic b s)) (front_one b (take_while is_graphic s) (is_graphic b) refl (front_graphic s))
 

@@ -184,10 +184,15 @@ line_is_text s line e =
     } in
     subst (λ (z : Line × List ℕ). z.1 ≡ [] → IsLineText s z.0) (ok_is (line_made both) end same) all refl
 
+abbrev line_of : ℕ × LineAsk → Line
+line_of x = record { lane = x.0; ask = x.1 }
+
 text_again : (lane : ℕ) (c : Command Mention) → lane ≤ 15 → FitsArgument (shape c.0) c.1 → line_at (decimal lane ++ space ∷ command_text cache_text c) ≡ Ok (line_with lane c, [])
 text_again lane c le fits =
     let text : List ℕ = command_text cache_text c in
-    rw ((up_to_reads 15 (omega arith)).again lane (space ∷ text) le refl, mark_again space text, ask_again c.0 c.1 fits) refl
+    let one : up_to_at 15 (decimal lane ++ space ∷ text) ≡ Ok (lane, space ∷ text) = (up_to_reads 15 (omega arith)).again lane (space ∷ text) le refl in
+    ap (λ (r : Read ℕ). mapped_read line_of (r >>= λ x. mark_at space x.1 >>= λ m. ask_at m.1 >>= λ y. Ok ((x.0, y.0), y.1))) one
+    ∙ ap (λ (r : Read LineAsk). mapped_read line_of (r >>= λ y. Ok ((lane, y.0), y.1))) (ask_again c.0 c.1 fits)
 
 pub text_is_line : TextIsLine
 text_is_line s line h = ap line_at h.whole ∙ text_again line.lane h.command h.lane h.fits ∙ ap (λ (l : Line). done (l, [])) (sym h.same)
@@ -233,16 +238,16 @@ back_from : (d c : Command ℤ) (ask : LineAsk) → Some d ≡ Some c → ask_wi
 back_from d c ask e is = ap (λ (z : Command ℤ). ask_with z.0 z.1) (sym (some_is d c e)) ∙ is
 
 call_back : (call : Call) (c : Command ℤ) → call_command call ≡ Some c → ask_with c.0 c.1 ≡ run call
-call_back (Scan cache) c e = absurd cc
-call_back (Affinity caches) c e = absurd cc
+call_back (Scan id) c e = absurd cc
+call_back (Affinity ids) c e = absurd cc
 call_back call c e = back_from _ c (run call) e refl
 
 ask_back : (ask : LineAsk) (c : Command ℤ) → command_of ask ≡ Some c → ask_with c.0 c.1 ≡ ask
 ask_back (asks.Ask (request.Run call)) c e = call_back call c e
-ask_back (asks.Ask (request.Scan cache page)) c e = back_from _ c _ e refl
-ask_back (asks.Ask (request.NextPage cursor)) c e = back_from _ c _ e refl
-ask_back (asks.Ask (request.Close resource)) c e = back_from _ c _ e refl
-ask_back (asks.Parts caches) c e = back_from _ c _ e refl
+ask_back (asks.Ask (request.Scan id rows)) c e = back_from _ c _ e refl
+ask_back (asks.Ask (request.NextPage id)) c e = back_from _ c _ e refl
+ask_back (asks.Ask (request.Close id)) c e = back_from _ c _ e refl
+ask_back (asks.Parts ids) c e = back_from _ c _ e refl
 
 written_case : (l : Line) (o : Option (Command ℤ)) → command_of l.ask ≡ o → l.lane ≤ 15 → FitsCommand o → IsLineText (decimal l.lane ++ space ∷ optional_command_text o) l
 written_case l None is le fits = absurd fits

@@ -147,10 +147,10 @@ pub(crate) fn up_to(limit: u8, text: &[u8]) -> Result<(u8, &[u8]), ReadError>
         (arguments.up_to_at limit text.now) }
 {
     let (number, rest) = natural(text)?;
-    match u8::try_from(number) {
-        Ok(number) if number <= limit => Ok((number, rest)),
-        _ => Err(ReadError::Bad { left: text.len() }),
+    if number > u64::from(limit) {
+        return Err(ReadError::Bad { left: text.len() });
     }
+    Ok((number as u8, rest))
 }
 
 impl Argument for u8 {

@@ -48,6 +48,7 @@ pub fn write_map(alloc: Global, map: &PartMap, out: &mut Octets) -> Result<(), N
 }
 
 /// Appends the text of a result. After an error part of it may stand there.
+#[tactic(auto, unfolding(crate::specs::ShownText::ShownText))]
 fn put_shown(shown: &Shown, out: &mut Octets) -> Result<(), NoMemory>
     requires { IsPrinted shown.now }
     ensures { OnOk result (out.new ≡ out.old ++ ShownText shown.now) }
@@ -141,6 +142,7 @@ fn put_cursor(cursor: &Option<i64>, out: &mut Octets) -> Result<(), NoMemory>
 }
 
 /// Appends the text of a fault. After an error part of it may stand there.
+#[tactic(auto, unfolding(crate::specs::ShownText::FaultText))]
 fn put_fault(fault: &Fault, out: &mut Octets) -> Result<(), NoMemory>
     ensures { OnOk result (out.new ≡ out.old ++ FaultText fault.now) }
 {
@@ -150,6 +152,7 @@ fn put_fault(fault: &Fault, out: &mut Octets) -> Result<(), NoMemory>
 }
 
 /// Appends the text of a partition map. After an error part of it may stand there.
+#[tactic(auto, unfolding(crate::specs::ShownText::MapText))]
 fn put_map(map: &PartMap, out: &mut Octets) -> Result<(), NoMemory>
     ensures { OnOk result (out.new ≡ out.old ++ MapText map.now) }
 {

@@ -25,6 +25,7 @@ use std::alloc::Global;
 
 /// Appends the text of the line, in which each cache stands by its identifier. On an error the bytes are
 /// as before.
+#[tactic(auto, unfolding(crate::specs::LineText::LineOf))]
 pub fn put_line(alloc: Global, line: &Line, out: &mut Octets) -> Result<(), NoMemory>
     ensures ok { OnOk result (out.new ≡ out.old ++ LineOf line.now) }
     ensures err { OnErr result (out.new ≡ out.old) }
@@ -48,6 +49,7 @@ pub fn put_ask(alloc: Global, ask: &LineAsk, out: &mut Octets) -> Result<(), NoM
 }
 
 /// Appends the word and its arguments. After an error part of them may stand there.
+#[tactic(auto, unfolding(crate::specs::LineText::AskText))]
 fn put_command(ask: &LineAsk, out: &mut Octets) -> Result<(), NoMemory>
     ensures { OnOk result (out.new ≡ out.old ++ AskText ask.now) }
 {

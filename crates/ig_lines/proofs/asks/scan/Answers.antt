@@ -1,0 +1,30 @@
+use Rattle.std.proofs.Common.{rules, ◌≡◌, ℕ, ℤ, List, sym, ap, ◌∙◌}
+use Rattle.ig_text.specs.DescriptionText.{adjacent_at}
+use Rattle.ig_text.specs.ReaderAnswers.{Fails}
+use Rattle.ig_lines.specs.Arguments.{page, argument_at}
+use Rattle.ig_lines.specs.ReadLine.{ask_of_word}
+use Rattle.ig_lines.specs.declared.word.Word.TheVariants as word
+use Rattle.ig_lines.proofs.AskLemmas.{asks_read, asks_stop, both_read, first_stops, second_stops, cache_id_at, scan_ids}
+use Rattle.ig_lines.proofs.asks.scan.Goals as goal
+
+pub returns-in_err-cache : goal.returns-in_err-cache
+returns-in_err-cache c =
+    let s : List ℕ = c.args.text.now in
+    let fails : Fails c.in_err-cache.field-0.0 (ask_of_word word.Scan s) =
+    asks_stop word.Scan (adjacent_at cache_id_at (argument_at page)) scan_ids s c.in_err-cache.field-0.0 (first_stops cache_id_at (argument_at page) s c.in_err-cache.field-0.0 c.in_err-cache.ensures) in
+    search rules
+
+pub returns-in_err-page : goal.returns-in_err-page
+returns-in_err-page c =
+    let s : List ℕ = c.args.text.now in
+    let fails : Fails c.in_err-page.field-0.0 (ask_of_word word.Scan s) =
+    asks_stop word.Scan (adjacent_at cache_id_at (argument_at page)) scan_ids s c.in_err-page.field-0.0
+    (second_stops cache_id_at (argument_at page) s c.in_ok-cache.rest.now c.in_ok-cache.cache c.in_err-page.field-0.0 c.in_ok-cache.ensures c.in_err-page.ensures) in
+    search rules
+
+pub returns : goal.returns
+returns c =
+    let s : List ℕ = c.args.text.now in
+    let rest : List ℕ = c.in_ok-page.rest.now in
+    asks_read word.Scan (adjacent_at cache_id_at (argument_at page)) scan_ids s rest (c.in_ok-cache.cache, c.in_ok-page.page)
+    (both_read cache_id_at (argument_at page) s c.in_ok-cache.rest.now rest c.in_ok-cache.cache c.in_ok-page.page c.in_ok-cache.ensures c.in_ok-page.ensures)
