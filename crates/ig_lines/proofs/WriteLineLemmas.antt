@@ -1,5 +1,5 @@
 -- What was written of a line, after each of its parts.
-use Rattle.std.proofs.Common.{◌≡◌, ℕ, List, [], ◌∷◌, ◌++◌, sym, ap, ◌∙◌, append_assoc}
+use Rattle.std.proofs.Common.{◌≡◌, ℕ, ℤ, List, [], ◌∷◌, ◌++◌, sym, ap, ◌∙◌, append_assoc}
 use Rattle.std.specs.Fmt.{decimal}
 use Rattle.ig_caches.specs.declared.call.Call.{Call}
 use Rattle.ig_lines.specs.declared.line.Line.{Line}
@@ -21,6 +21,10 @@ put_after_three old mid new word a b c d one two = put_after_two old mid new wor
 -- the text of what was matched
 pub call_text : (call made : Call) (now : List ℕ) → call ≡ made → now ++ optional_command_text (call_command made) ≡ now ++ optional_command_text (call_command call)
 call_text call made now e = ap (λ (c : Call). now ++ optional_command_text (call_command c)) (sym e)
+
+-- the same, where the cache was given as it is stored
+pub cache_text : (make : ℤ → Call) (call : Call) (now : List ℕ) (cache given : ℤ) → given ≡ cache → call ≡ make cache → now ++ optional_command_text (call_command (make given)) ≡ now ++ optional_command_text (call_command call)
+cache_text make call now cache given same e = ap (λ (z : ℤ). now ++ optional_command_text (call_command (make z))) same ∙ call_text call (make cache) now e
 
 pub ask_text : (ask made : LineAsk) (now : List ℕ) → ask ≡ made → now ++ optional_command_text (command_of made) ≡ now ++ AskText ask
 unfolding AskText
