@@ -1,6 +1,8 @@
 //! The table of the words of operations.
 
 ghost use Rattle.std.specs.Prelude.{◌≡◌};
+ghost use Rattle.std.specs.List.{find};
+ghost use Rattle.std.specs.Str.{bytes_eq};
 ghost use Rattle.ig_lines.specs.Words as words;
 
 use crate::word::Word;
@@ -87,7 +89,14 @@ static WORDS: [Word; 33] = [
 pub(crate) fn word_of(text: &[u8]) -> Option<Word>
     ensures { result ≡ words.word_of text.now }
 {
-    for word in &WORDS {
+    first_word(&WORDS, text)
+}
+
+/// The first of these words with this text, if any.
+fn first_word(listed: &[Word], text: &[u8]) -> Option<Word>
+    ensures { result ≡ find (λ w. bytes_eq text.now (words.text_of w)) listed.now }
+{
+    for word in listed {
         if text == text_of(*word) {
             return Some(*word);
         }

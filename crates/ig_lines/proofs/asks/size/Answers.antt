@@ -1,4 +1,4 @@
-use Rattle.std.proofs.Common.{rules, ◌≡◌, ℕ, ℤ, List, sym, ap, ◌∙◌}
+use Rattle.std.proofs.Common.{rules, ◌≡◌, ℕ, ℤ, List, w32, to_z, of_z, sym, ap, ◌∙◌}
 use Rattle.ig_text.specs.DescriptionText.{adjacent_at}
 use Rattle.ig_text.specs.ReaderAnswers.{Fails}
 use Rattle.ig_caches.specs.declared.call.Call.TheVariants as calls
@@ -29,6 +29,8 @@ pub returns : goal.returns
 returns c =
     let s : List ℕ = c.args.text.now in
     let rest : List ℕ = c.in_ok-modes.rest.now in
+    let id : to_z w32 (of_z w32 c.in_ok-cache.cache) ≡ c.in_ok-cache.cache = search rules in
     asks_read word.Size (adjacent_at cache_id_at (all_at (argument_at small))) size_ids s rest (c.in_ok-cache.cache, c.in_ok-modes.modes)
     (both_read cache_id_at (all_at (argument_at small)) s c.in_ok-cache.rest.now rest c.in_ok-cache.cache c.in_ok-modes.modes c.in_ok-cache.ensures c.in_ok-modes.ensures)
     ∙ ap (λ (l : List ℕ). done (run (calls.Size c.in_ok-cache.cache l), rest)) (sym (c.new-modes.ensures ∙ c.into_std.ensures))
+    ∙ ap (λ (i : ℤ). done (run (calls.Size i c.new-modes.result), rest)) (sym id)

@@ -34,7 +34,7 @@ returns-then-is_empty-2 g c =
     let R = g.F.Argument.reads in
     let s : List ℕ = c.args.text.now in
     let rest : List ℕ = c.loop.rest.now in
-    end_reached R (length s - c.loop.counter) rest c.loop.read.items (to_end_at R (length s) s) (none_left rest c.if-is_empty-2.ensures) c.loop.invariant ∙ ap (λ l. done (l, rest)) (sym c.new-2.ensures)
+    end_reached R (length s - c.loop.counter) rest c.loop.read.items (to_end_at R (length s) s) (none_left rest c.if-is_empty-2.ensures) c.loop.invariant ∙ ap (λ l. done (l, rest)) (sym c.new-then-is_empty-2.ensures)
 
 pub returns : goal.returns
 returns g c =
