@@ -56,11 +56,13 @@ fn push_digits(text: &mut String, number: u32) -> Result<()> {
 }
 
 /// A text as a key.
-fn text_item(text: Text) -> Value
+fn text_item(text: Text) -> Result<Value>
     requires { length text < 1000 }
-    ensures { IsItem result }
+    ensures { IfOk result IsItem }
 {
-    Value::Str(text)
+    let value = Value::Str(text);
+    ensure!(value.keeps_to_limits(), "a text that isn't a value");
+    Ok(value)
 }
 
 /// An int as a key or a value.
@@ -88,7 +90,7 @@ fn key(alloc: Global, kind: Kind, number: u32) -> Result<Value>
         }
     }
     ensure!(text.len() < 1000, "a long key");
-    Ok(text_item(Text::new(text)))
+    text_item(Text::new(text))
 }
 
 /// The number of the row at this place: each place has another, and neighbours are far apart.

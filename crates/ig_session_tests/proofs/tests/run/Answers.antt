@@ -1,8 +1,0 @@
-use Rattle.ig_session_tests.proofs.TestLemmas.{answered_none}
-use Rattle.ig_session_tests.proofs.tests.run.Goals as goal
-
-pub returns-then-lacks : goal.returns-then-lacks
-returns-then-lacks c = answered_none c.args.session.now c.answer.new.self _ c.answer.result c.requires c.answer.ensures.ok
-
-pub returns : goal.returns
-returns c = answered_none c.args.session.now c.answer-default.new.self _ c.answer-default.result c.requires c.answer-default.ensures.ok
