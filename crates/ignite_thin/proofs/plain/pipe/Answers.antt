@@ -25,6 +25,7 @@ same : PlainCaches → PlainCaches
 same c = c
 
 pub returns-in-Ok-start : goal.returns-in-Ok-start
+unfolding same
 returns-in-Ok-start g c =
     let names : List (List ℕ) = map string_bytes c.in-Some.names.now in
     let stood : StandsAlone same c.new-caller.result (fresh_caches names) [] =
