@@ -1,9 +1,9 @@
 -- Arguments are read as they are written.
-use Rattle.std.proofs.Common.{◌≡◌, ℕ, ℤ, zero, suc, pos, ◌+◌, ◌<◌, ◌≤◌, ◌^◌, Bool, true, false, cond, not, List, [], ◌∷◌, ◌++◌, length, map, take, drop, Option, Ok, Err, eqb, ltb, leb, eq-eqb, refl, sym, ap, subst, ◌∙◌, append_assoc, arith, inl, inr, length-append}
+use Rattle.std.proofs.Common.{◌≡◌, ℕ, zero, suc, pos, ◌+◌, ◌<◌, ◌≤◌, ◌^◌, Bool, true, false, cond, not, List, [], ◌∷◌, ◌++◌, length, take, drop, Ok, ltb, leb, refl, sym, ap, subst, ◌∙◌, append_assoc, arith, length-append}
 use Rattle.std.specs.Prelude.{int_le}
 use Rattle.std.specs.Fmt.{decimal}
 use Rattle.std.specs.List.{AllByRecursion, flat_map, prefix_len, take_while}
-use Rattle.std.proofs.lemmas.Bool.{cases_eq, cases_Bool, ne_eqb, ltb-true, leb-true, lt-ltb, le-leb, eqb-true, cond-true, cond-false, not-true, not_from_false}
+use Rattle.std.proofs.lemmas.Bool.{ltb-true, leb-true, lt-ltb, le-leb, cond-true, cond-false, not-true, not_from_false}
 use Rattle.std.proofs.lemmas.List.{take_at, drop_at, take-append-drop, append-nil}
 use Rattle.std.proofs.lemmas.List.Sums.{take_while-cons}
 use Rattle.ig_value.specs.declared.value.Value.{Value}
@@ -12,18 +12,18 @@ use Rattle.ig_value.specs.Part.{i32, i64}
 use Rattle.ig_value.specs.Spells.{IsInRange}
 use Rattle.ig_fields.specs.ReadingFields.{is_null}
 use Rattle.ig_caches.specs.declared.call.Pair.{Pair}
-use Rattle.ig_text.specs.ReadText.{Read, ◌>>=◌, mapped_read, checked_read, mark_at, begins_with, joined_at, is_hex, natural_at, scalar_at, quoted_at, text_at}
+use Rattle.ig_text.specs.ReadText.{Read, ◌>>=◌, mapped_read, begins_with, joined_at, is_hex, natural_at, scalar_at, quoted_at, text_at}
 use Rattle.ig_text.specs.TextLaws.{Ends}
 use Rattle.ig_text.specs.TextOf.{TextOf}
 use Rattle.ig_text.specs.Tokens.{equals, quoted, scalar_text}
-use Rattle.ig_text.proofs.ReadsLemmas.{Takes, Reads, Anything, bind_ok, done, ok_is, mapped_reads, checked_reads, marked_reads, mark_taken, mark_again, joined_reads}
+use Rattle.ig_text.proofs.ReadsLemmas.{Takes, Reads, bind_ok, done, ok_is, mapped_reads, checked_reads, marked_reads, joined_reads}
 use Rattle.ig_text.proofs.NumberLemmas.{natural_reads}
 use Rattle.ig_text.proofs.TokenLemmas.{begun, scalar_reads, quoted_reads}
 use Rattle.ig_text.proofs.LevelLemmas.{read_is_text, text_is_read}
-use Rattle.ig_lines.specs.Arguments.{space, number_sign, Argument, nothing, cache, item, pair, small, page, cursor, type_id, name, quoted_text, description, both, listed, Held, Mention, numbered, named, numbered_text, cache_text, is_graphic, graphic_len, name_of, cache_at, pair_text, item_at, pair_of, pair_at, up_to_at, page_at, name_at, argument_text, spaced_at, to_end_at, argument_at}
-use Rattle.ig_text.specs.DescriptionText.{description_text, adjacent_at, description_at}
+use Rattle.ig_lines.specs.Arguments.{space, number_sign, Argument, nothing, cache, item, pair, small, page, cursor, type_id, name, quoted_text, description, both, listed, Held, Mention, numbered, named, cache_text, is_graphic, graphic_len, name_of, cache_at, pair_text, item_at, pair_of, pair_at, up_to_at, page_at, name_at, argument_text, spaced_at, to_end_at, argument_at}
+use Rattle.ig_text.specs.DescriptionText.{description_text, description_at}
 use Rattle.ig_text.specs.FitsDescription.{FitsDescription}
-use Rattle.ig_lines.specs.FitsLine.{IsPresent, IsName, FitsCache, FitsArgument}
+use Rattle.ig_lines.specs.FitsLine.{IsPresent, FitsCache, FitsArgument}
 use Rattle.ig_text.proofs.DescriptionLemmas.{adjacent_reads, description_reads}
 
 -- ---- what follows an argument: nothing, or a space

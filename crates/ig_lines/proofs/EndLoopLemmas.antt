@@ -4,7 +4,7 @@ use Rattle.std.proofs.lemmas.List.{append-nil}
 use Rattle.ig_text.specs.declared.fault.ReadError.{ReadError}
 use Rattle.ig_text.specs.declared.fault.ReadError.TheVariants as error
 use Rattle.ig_text.specs.ReaderAnswers.{Fails}
-use Rattle.ig_text.specs.ReadText.{Read, ◌>>=◌, mapped_read}
+use Rattle.ig_text.specs.ReadText.{Read, ◌>>=◌}
 use Rattle.ig_text.proofs.ReadsLemmas.{done}
 use Rattle.ig_text.proofs.ReaderLoopLemmas.{with_front, front_more, counted_down}
 use Rattle.ig_lines.specs.Arguments.{to_end_at}

@@ -1,7 +1,7 @@
 -- Lines are read as they are written.
-use Rattle.std.proofs.Common.{◌≡◌, ℕ, ℤ, zero, suc, ◌+◌, ◌<◌, ◌≤◌, Bool, true, false, cond, not, ◌&&◌, List, [], ◌∷◌, ◌++◌, length, map, take, drop, Option, Some, None, Result, Ok, Err, eqb, refl, sym, ap, subst, ◌∙◌, append_assoc, arith}
+use Rattle.std.proofs.Common.{◌≡◌, ℕ, ℤ, ◌+◌, ◌≤◌, Bool, true, false, cond, not, ◌&&◌, List, [], ◌∷◌, ◌++◌, length, take, drop, Option, Some, None, Result, Ok, Err, eqb, refl, sym, ap, subst, ◌∙◌, append_assoc, arith}
 use Rattle.std.specs.Fmt.{decimal}
-use Rattle.std.specs.List.{find, prefix_len}
+use Rattle.std.specs.List.{find}
 use Rattle.std.specs.Str.{bytes_eq}
 use Rattle.std.proofs.lemmas.Bool.{and_parts, cond-true, cond-false}
 use Rattle.std.proofs.lemmas.List.{take_at, drop_at, take-append-drop, append-nil}
@@ -12,7 +12,7 @@ use Rattle.ig_caches.specs.declared.request.Request.TheVariants as request
 use Rattle.ig_text.specs.declared.fault.TextFault.{TextFault}
 use Rattle.ig_text.specs.declared.fault.TextFault.TheVariants as fault
 use Rattle.ig_text.specs.ReadText.{Read, ◌>>=◌, mapped_read, mark_at, joined_at}
-use Rattle.ig_text.proofs.ReadsLemmas.{Takes, Reads, bind_ok, done, ok_is, mark_taken, mark_again}
+use Rattle.ig_text.proofs.ReadsLemmas.{bind_ok, done, ok_is, mark_taken}
 use Rattle.ig_lines.specs.declared.line.Line.{Line}
 use Rattle.ig_lines.specs.declared.line.LineAsk.{LineAsk}
 use Rattle.ig_lines.specs.declared.line.LineAsk.TheVariants as asks

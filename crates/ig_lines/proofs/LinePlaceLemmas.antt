@@ -1,18 +1,18 @@
 -- No reader of a line goes back.
-use Rattle.std.proofs.Common.{ℕ, zero, suc, pos, ◌≤◌, cond, not, List, [], ◌∷◌, length, take, drop, Option, Some, None, Ok, Err, leb, ltb}
+use Rattle.std.proofs.Common.{ℕ, zero, suc, pos, not, List, [], ◌∷◌, length, take, drop, Option, Some, None, leb, ltb}
 use Rattle.std.specs.Prelude.{int_le}
 use Rattle.ig_value.specs.Part.{i32, i64}
 use Rattle.ig_fields.specs.ReadingFields.{is_null}
 use Rattle.ig_text.specs.ReadText.{Read, ◌>>=◌, mapped_read, begins_with, joined_at, natural_at, scalar_at, quoted_at, text_at}
 use Rattle.ig_text.specs.Tokens.{equals}
-use Rattle.ig_text.specs.DescriptionText.{adjacent_at, description_at}
+use Rattle.ig_text.specs.DescriptionText.{description_at}
 use Rattle.ig_text.proofs.ReadsLemmas.{done}
-use Rattle.ig_text.proofs.PlaceLemmas.{IsWithin, Advances, drop_within, more_within, then_within, chosen_within, here, below, mapped_within, checked_advances, marked_advances, joined_advances, natural_advances, scalar_advances, quoted_advances, text_advances}
+use Rattle.ig_text.proofs.PlaceLemmas.{IsWithin, Advances, drop_within, more_within, then_within, chosen_within, here, mapped_within, checked_advances, marked_advances, joined_advances, natural_advances, scalar_advances, quoted_advances, text_advances}
 use Rattle.ig_text.proofs.DescriptionPlaceLemmas.{adjacent_advances, description_advances}
 use Rattle.ig_lines.specs.declared.word.Word.{Word}
-use Rattle.ig_lines.specs.Arguments.{space, number_sign, Argument, nothing, cache, item, pair, small, page, cursor, type_id, name, quoted_text, description, both, listed, Mention, numbered, named, graphic_len, name_of, cache_at, item_at, pair_of, pair_at, up_to_at, page_at, name_at, spaced_at, to_end_at, argument_at, by_id}
+use Rattle.ig_lines.specs.Arguments.{space, number_sign, Argument, nothing, cache, item, pair, small, page, cursor, type_id, name, quoted_text, description, both, listed, Mention, numbered, graphic_len, name_of, cache_at, item_at, pair_of, pair_at, up_to_at, page_at, name_at, spaced_at, to_end_at, argument_at, by_id}
 use Rattle.ig_lines.specs.Commands.{ask_with}
-use Rattle.ig_lines.specs.ReadLine.{word_found, word_front, word_len, word_at, ask_of_word, ask_at, line_at}
+use Rattle.ig_lines.specs.ReadLine.{word_found, word_len, word_at, ask_of_word, ask_at, line_at}
 use Rattle.ig_lines.specs.Words.{shape, word_of}
 
 -- ---- arguments

@@ -1,12 +1,12 @@
 -- The name of a cache, and the word, that stand in front.
-use Rattle.std.proofs.Common.{◌≡◌, ◌<◌, ◌≤◌, ℕ, ℤ, zero, suc, Bool, true, not, w32, List, [], ◌∷◌, length, take, drop, Option, None, Some, Ok, Err, eqb, leb, refl, sym, ap, subst, ◌∙◌, arith}
+use Rattle.std.proofs.Common.{◌≡◌, ◌<◌, ◌≤◌, ℕ, zero, suc, true, not, w32, List, [], ◌∷◌, length, take, drop, Option, None, Some, Ok, Err, eqb, leb, refl, sym, ap, subst, ◌∙◌, arith}
 use Rattle.std.specs.Int.{cast_signed}
 use Rattle.std.specs.Str.{IsAscii, IsUtf8}
 use Rattle.std.proofs.lemmas.Bool.{and_parts, leb-true}
 use Rattle.std.proofs.lemmas.List.Sums.{prefix_len-le-length}
 use Rattle.std.proofs.lemmas.Str.{IsUtf8-from_ascii}
 use Rattle.ig_base.specs.Hashes.{Java, units}
-use Rattle.ig_text.specs.ReadText.{Read, mapped_read}
+use Rattle.ig_text.specs.ReadText.{mapped_read}
 use Rattle.ig_text.proofs.ReadsLemmas.{done}
 use Rattle.ig_lines.specs.declared.word.Word.{Word}
 use Rattle.ig_lines.specs.Arguments.{space, id_of, is_graphic, graphic_len, name_of}

@@ -1,5 +1,5 @@
 -- The arguments of a line: what each holds, its text, and how it is read. Each stands after a space.
-use Rattle.std.specs.Prelude.{ℕ, ℤ, pos, zero, suc, ◌+◌, Bool, not, ◌&&◌, List, [], ◌∷◌, ◌++◌, length, take, drop, map, nat_lt, nat_le, int_le, Result, Ok, Err, ◌==◌, if◌then◌else◌}
+use Rattle.std.specs.Prelude.{ℕ, ℤ, pos, zero, suc, Bool, not, List, [], ◌∷◌, ◌++◌, length, take, drop, map, nat_lt, nat_le, int_le, Ok, Err, if◌then◌else◌}
 use Rattle.std.specs.Int.{w32, cast_signed, is_in_range}
 use Rattle.std.specs.Fmt.{decimal}
 use Rattle.std.specs.List.{flat_map, prefix_len}

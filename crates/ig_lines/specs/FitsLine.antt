@@ -1,6 +1,6 @@
 -- The limits of lines: each number in its range, values that aren't null and keep to theirs, descriptions
 -- in order.
-use Rattle.std.specs.Prelude.{◌≡◌, ℕ, ℤ, pos, ◌<◌, ◌≤◌, true, false, List, [], ◌∷◌, length, int_le}
+use Rattle.std.specs.Prelude.{◌≡◌, ℕ, pos, ◌<◌, ◌≤◌, true, false, List, [], ◌∷◌, length, int_le}
 use Rattle.std.specs.List.{AllByRecursion}
 use Rattle.ig_value.specs.declared.value.Value.{Value}
 use Rattle.ig_value.specs.Limits.{IsLimitedText, Fits}

@@ -1,5 +1,5 @@
 -- Reading a line from left to right.
-use Rattle.std.specs.Prelude.{◌≡◌, ℕ, ◌+◌, Bool, not, List, [], ◌∷◌, length, take, drop, Option, Some, None, Result, Ok, Err, ◌==◌, if◌then◌else◌}
+use Rattle.std.specs.Prelude.{◌≡◌, ℕ, ◌+◌, not, List, [], length, take, drop, Option, Some, None, Result, Ok, Err, ◌==◌}
 use Rattle.std.specs.List.{prefix_len}
 use Rattle.ig_text.specs.declared.fault.TextFault.{TextFault}
 use Rattle.ig_text.specs.declared.fault.TextFault.TheVariants as fault

@@ -7,7 +7,6 @@ use Rattle.ig_types.specs.declared.meta.TypeMeta.{TypeMeta}
 use Rattle.ig_wire.specs.declared.head.Fault.{Fault}
 use Rattle.ig_caches.specs.declared.answer.Outcome.{Outcome}
 use Rattle.ig_caches.specs.declared.answer.Outcome.TheVariants as outcome
-use Rattle.ig_caches.specs.declared.call.Pair.{Pair}
 use Rattle.ig_caches.specs.declared.request.Page.{Page}
 use Rattle.ig_caches.specs.declared.request.Shown.{Shown}
 use Rattle.ig_caches.specs.declared.request.Shown.TheVariants as shown

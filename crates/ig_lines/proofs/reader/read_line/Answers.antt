@@ -1,4 +1,4 @@
-use Rattle.std.proofs.Common.{◌≡◌, ℕ, ◌+◌, ◌-◌, ◌≤◌, List, [], length, Ok, Err, subst, arith}
+use Rattle.std.proofs.Common.{◌≡◌, ℕ, ◌+◌, ◌-◌, ◌≤◌, List, length, Ok, Err, subst, arith}
 use Rattle.ig_text.specs.declared.fault.ReadError.{ReadError}
 use Rattle.ig_text.specs.declared.fault.TextFault.TheVariants as fault
 use Rattle.ig_text.specs.ReaderAnswers.{Fails}

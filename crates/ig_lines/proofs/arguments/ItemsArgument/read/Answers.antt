@@ -1,5 +1,4 @@
-use Rattle.std.proofs.Common.{rules, ◌≡◌, ◌-◌, ℕ, List, length, sym, ap, ◌∙◌}
-use Rattle.ig_text.specs.ReadText.{Read}
+use Rattle.std.proofs.Common.{rules, ◌-◌, ℕ, List, length, sym, ap, ◌∙◌}
 use Rattle.ig_text.specs.ReaderAnswers.{Fails}
 use Rattle.ig_text.proofs.ReadsLemmas.{done}
 use Rattle.ig_text.proofs.WholeLemmas.{none_left, some_left}
