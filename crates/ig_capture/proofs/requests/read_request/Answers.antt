@@ -52,7 +52,7 @@ returns-in-Ok-clause-asked c =
     let id : FitsSigned w64 c.read_ask-code.result.1 = search (rules, c.read_ask-code.type_inv) in
     subst (λ (e : Result Request AskFault). AnswersAs e c.read_fields.result)
     (sym (row_served c.args.version c.args.body.now c.read_ask-code.result.0 c.in-Some.operation (head_in c.args.body.now c.read_ask-code.result.0 c.read_ask-code.result.1 code id c.read_ask-code.ensures.found).0 (search (rules, c.of.ensures, c.in-Some.is)) (search (rules, c.since.ensures, c.is_up_to.ensures, c.if-not-is_up_to.false))))
-    c.read_fields.ensures
+    c.read_fields.ensures.asked
 
 pub returns-in-Err-clause-id : goal.returns-in-Err-clause-id
 returns-in-Err-clause-id c =
@@ -67,4 +67,4 @@ returns-in-Err-clause-asked c =
     let id : FitsSigned w64 c.read_ask-code.result.1 = search (rules, c.read_ask-code.type_inv) in
     subst (λ (e : Result Request AskFault). AnswersAs e c.read_fields.result)
     (sym (row_served c.args.version c.args.body.now c.read_ask-code.result.0 c.in-Some.operation (head_in c.args.body.now c.read_ask-code.result.0 c.read_ask-code.result.1 code id c.read_ask-code.ensures.found).0 (search (rules, c.of.ensures, c.in-Some.is)) (search (rules, c.since.ensures, c.is_up_to.ensures, c.if-not-is_up_to.false))))
-    c.read_fields.ensures
+    c.read_fields.ensures.asked
