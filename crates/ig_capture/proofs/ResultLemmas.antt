@@ -20,7 +20,7 @@ use Rattle.ig_capture.specs.declared.stop.Stop.{Stop}
 use Rattle.ig_capture.specs.Answers.{ShowsContent, StopsAt}
 use Rattle.ig_capture.specs.Talks.{printed, text_by, text_form}
 use Rattle.ig_capture.proofs.AskLemmas.{row_of}
-use Rattle.ig_capture.proofs.OperationLemmas.{at_code, types_alone}
+use Rattle.ig_capture.proofs.OperationLemmas.{at_code, none_is_some, types_alone}
 use Rattle.ig_capture.proofs.ContentLemmas.{content_shown, content_stopped}
 
 -- the row at the code of an operation is that of the operation
@@ -98,7 +98,7 @@ module _ (o : Operation) (place : ℕ) (body : List ℕ) (at : ℕ) where
         go (types_result o) refl known (subst (λ (r : Option (ResultForm Shown)). IfSome r (λ form. ShowsAs (shown_by form body at) (Ok x))) (at_row types_result o) shows)
       where
         go : (row : Option (ResultForm Shown)) → types_result o ≡ row → IsSome row → IfSome row (λ form. ShowsAs (shown_by form body at) (Ok x)) → Shows old new (Ok tt)
-        go None is some s = absurd some
+        go None is some s = absurd (none_is_some some)
         go (Some form) is some s = in_form (Some (printed ShownText form)) old new (Ok tt) (types_form form is (types_alone o known)) (content_shown ShownText form place body at x old new s text)
 
     pub types_stopped : (e : ReadFault) (s : Stop) (old new : List ℕ) → IfSome (row_at types_result (operation_code o)) (λ form. ShowsAs (shown_by form body at) (Err e)) → StopsAt place e s
@@ -107,7 +107,7 @@ module _ (o : Operation) (place : ℕ) (body : List ℕ) (at : ℕ) where
         go (types_result o) refl known (subst (λ (r : Option (ResultForm Shown)). IfSome r (λ form. ShowsAs (shown_by form body at) (Err e))) (at_row types_result o) shows)
       where
         go : (row : Option (ResultForm Shown)) → types_result o ≡ row → IsSome row → IfSome row (λ form. ShowsAs (shown_by form body at) (Err e)) → Shows old new (Err s)
-        go None is some x = absurd some
+        go None is some x = absurd (none_is_some some)
         go (Some form) is some x = in_form (Some (printed ShownText form)) old new (Err s) (types_form form is (types_alone o known)) (content_stopped ShownText form place body at e s old new x stops)
 
 -- an operation of rows has a row at its code, and so has one of types
@@ -115,7 +115,7 @@ pub rows_at_code : (o : Operation) → IsSome (rows_result o) → IsKnown (row_a
 rows_at_code o known = subst IsKnown (sym (at_row rows_result o)) (go (rows_result o) known)
   where
     go : (row : Option (ResultForm Shown)) → IsSome row → IsKnown row
-    go None some = absurd some
+    go None some = absurd (none_is_some some)
     go (Some form) some = tt
 
 pub types_at_code : (o : Operation) → IsSome (types_result o) → IsSome (row_at types_result (operation_code o))

@@ -32,11 +32,36 @@ use Rattle.ig_capture.proofs.MessageLemmas.{read_right, request_heard, greeted_w
 alone : (old new text : List ℕ) → old ≡ [] → new ≡ old ++ text → text ≡ new
 alone old new text none is = sym (is ∙ ap (λ (l : List ℕ). l ++ text) none)
 
-module _ (phase : Phase) (us : Unanswered) (talk : Talk) (view : record { phase = phase; unanswered = us } ≡ talk) where
-  -- ---- a hello
+-- ---- messages that are malformed
 
+module _ (talk : Talk) where
   pub hello_wrong : (place : ℕ) (body : List ℕ) → is_hello body ≡ false → hello_step talk place body ≡ Err place
   hello_wrong place body other = cond-false (is_hello body) (Ok (record talk { phase = Asked (version_at body 1) }, hello_text body)) (Err place) other
+
+  pub unspoken_accepted : (v : Version) (place : ℕ) (body : List ℕ) → accepts_unspoken v body ≡ true → greeting_step talk v place body ≡ Err place
+  unspoken_accepted v place body is = cond-true (accepts_unspoken v body) (Err place) (greeted talk v place body (hello_reply_of v body)) is
+
+  greets : (v : Version) (place : ℕ) (body : List ℕ) → accepts_unspoken v body ≡ false → greeting_step talk v place body ≡ greeted talk v place body (hello_reply_of v body)
+  greets v place body other = cond-false (accepts_unspoken v body) (Err place) (greeted talk v place body (hello_reply_of v body)) other
+
+  pub greeting_stops : (v : Version) (place : ℕ) (body : List ℕ) (e : ReadFault) (s : Stop) (talk' : Talk) (text : List ℕ) → accepts_unspoken v body ≡ false
+      → MessageAnswers body (Err e) (hello_reply_of v body) → StopsAt place e s → ShowsStep (greeting_step talk v place body) talk' text (Err s)
+  greeting_stops v place body reads.NoMemory s talk' text other answers stops = subst (λ (t : Stop). ShowsStep (greeting_step talk v place body) talk' text (Err t)) (sym stops) tt
+  greeting_stops v place body (reads.Unread unread) s talk' text other answers stops =
+      subst (λ (t : Stop). ShowsStep (greeting_step talk v place body) talk' text (Err t)) (sym stops)
+      (greets v place body other ∙ greeted_wrong talk v place unread.place body (hello_reply_of v body) answers)
+
+  pub reply_unread : (v : Version) (place : ℕ) (body : List ℕ) (e : ReadFault) (s : Stop) (talk' : Talk) (text : List ℕ) → HeadAnswers v body (Err e) → StopsAt place e s
+      → ShowsStep (reply_after talk place body (head_of v body)) talk' text (Err s)
+  reply_unread v place body reads.NoMemory s talk' text answers stops = subst (λ (t : Stop). ShowsStep (reply_after talk place body (head_of v body)) talk' text (Err t)) (sym stops) tt
+  reply_unread v place body (reads.Unread unread) s talk' text answers stops =
+      subst (λ (t : Stop). ShowsStep (reply_after talk place body (head_of v body)) talk' text (Err t)) (sym stops)
+      (reply_wrong talk place unread.place body (head_of v body) answers)
+
+-- ---- messages that are heard
+
+module _ (phase : Phase) (us : Unanswered) (talk : Talk) (view : record { phase = phase; unanswered = us } ≡ talk) where
+  -- ---- a hello
 
   pub hello_heard : (place : ℕ) (body : List ℕ) (v : Version) (old new : List ℕ) → is_hello body ≡ true → v ≡ version_at body 1 → old ≡ [] → new ≡ old ++ hello_text body
       → hello_step talk place body ≡ Ok (record { phase = Asked v; unanswered = us }, new)
@@ -60,35 +85,15 @@ module _ (phase : Phase) (us : Unanswered) (talk : Talk) (view : record { phase 
 
   -- ---- the reply to a hello
 
-  pub unspoken_accepted : (v : Version) (place : ℕ) (body : List ℕ) → accepts_unspoken v body ≡ true → greeting_step talk v place body ≡ Err place
-  unspoken_accepted v place body is = cond-true (accepts_unspoken v body) (Err place) (greeted talk v place body (hello_reply_of v body)) is
-
-  greets : (v : Version) (place : ℕ) (body : List ℕ) → accepts_unspoken v body ≡ false → greeting_step talk v place body ≡ greeted talk v place body (hello_reply_of v body)
-  greets v place body other = cond-false (accepts_unspoken v body) (Err place) (greeted talk v place body (hello_reply_of v body)) other
-
   pub greeting_heard : (v : Version) (place : ℕ) (body : List ℕ) (reply : HelloReply) (phase' : Phase) (old new : List ℕ) → accepts_unspoken v body ≡ false → hello_reply_of v body ≡ Ok reply
       → phase' ≡ phase_after v reply → old ≡ [] → new ≡ old ++ accepted_text reply → greeting_step talk v place body ≡ Ok (record { phase = phase'; unanswered = us }, new)
   greeting_heard v place body reply phase' old new other reads after none text =
-      greets v place body other ∙ greeted_well talk v place body reply reads
+      greets talk v place body other ∙ greeted_well talk v place body reply reads
       ∙ ap (λ (t : Talk). Ok (record t { phase = phase_after v reply }, accepted_text reply)) (sym view)
       ∙ ap (λ (p : Phase). Ok (record { phase = p; unanswered = us }, accepted_text reply)) (sym after)
       ∙ ap (λ (l : List ℕ). Ok (record { phase = phase'; unanswered = us }, l)) (alone old new (accepted_text reply) none text)
 
-  pub greeting_stops : (v : Version) (place : ℕ) (body : List ℕ) (e : ReadFault) (s : Stop) (talk' : Talk) (text : List ℕ) → accepts_unspoken v body ≡ false
-      → MessageAnswers body (Err e) (hello_reply_of v body) → StopsAt place e s → ShowsStep (greeting_step talk v place body) talk' text (Err s)
-  greeting_stops v place body reads.NoMemory s talk' text other answers stops = subst (λ (t : Stop). ShowsStep (greeting_step talk v place body) talk' text (Err t)) (sym stops) tt
-  greeting_stops v place body (reads.Unread unread) s talk' text other answers stops =
-      subst (λ (t : Stop). ShowsStep (greeting_step talk v place body) talk' text (Err t)) (sym stops)
-      (greets v place body other ∙ greeted_wrong talk v place unread.place body (hello_reply_of v body) answers)
-
   -- ---- a reply
-
-  pub reply_unread : (v : Version) (place : ℕ) (body : List ℕ) (e : ReadFault) (s : Stop) (talk' : Talk) (text : List ℕ) → HeadAnswers v body (Err e) → StopsAt place e s
-      → ShowsStep (reply_after talk place body (head_of v body)) talk' text (Err s)
-  reply_unread v place body reads.NoMemory s talk' text answers stops = subst (λ (t : Stop). ShowsStep (reply_after talk place body (head_of v body)) talk' text (Err t)) (sym stops) tt
-  reply_unread v place body (reads.Unread unread) s talk' text answers stops =
-      subst (λ (t : Stop). ShowsStep (reply_after talk place body (head_of v body)) talk' text (Err t)) (sym stops)
-      (reply_wrong talk place unread.place body (head_of v body) answers)
 
   module _ (place : ℕ) (body : List ℕ) (head : ReplyHead) (s : List ℕ) (read : Result (ReplyHead × List ℕ) ℕ) (is : read ≡ Ok (head, s)) (us' : Unanswered) where
     pub reply_not_asked : TakesFirst head.id us us' None → reply_after talk place body read ≡ Err place

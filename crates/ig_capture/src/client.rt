@@ -1,6 +1,6 @@
 //! The messages of a client: a hello, and then requests.
 
-ghost use Rattle.std.specs.Prelude.{◌≡◌, ◌≤◌, ◌<◌, ◌^◌, ◌++◌, [], length, OnOk};
+ghost use Rattle.std.specs.Prelude.{◌≡◌, ◌≤◌, ◌<◌, ◌^◌, ◌++◌, false, [], length, OnOk};
 ghost use Rattle.ig_wire.specs.Greets.{version_at as version_read};
 ghost use Rattle.ig_capture.specs.Answers.{ShowsStep, lacks_memory as has_no_memory};
 ghost use Rattle.ig_capture.specs.Talks.{client_message, hello_step, request_step, hello_text, is_hello as begins_as_hello, line_ask as asked_line, asked_text, least};

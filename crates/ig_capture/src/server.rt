@@ -1,6 +1,6 @@
 //! The messages of a server: the reply to the hello, and then replies to requests.
 
-ghost use Rattle.std.specs.Prelude.{◌≡◌, ◌≤◌, ◌++◌, [], drop, length, Option, OnOk};
+ghost use Rattle.std.specs.Prelude.{◌≡◌, ◌≤◌, ◌++◌, true, [], drop, length, Option, OnOk};
 ghost use Rattle.ig_capture.specs.Answers.{ShowsStep, ShowsContent};
 ghost use Rattle.ig_capture.specs.Talks.{server_message, greeting_step, reply_after, accepted_text, phase_after as phase_read, told_text, content_text, accepts_unspoken as accepts_other, least};
 ghost use Rattle.ig_wire.specs.Heads.{head_of};

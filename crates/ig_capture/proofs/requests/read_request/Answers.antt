@@ -1,4 +1,4 @@
-use Rattle.std.proofs.Common.{◌≡◌, ℤ, Some, Result, sym, ap, subst, ◌∙◌, rules, to_z, of_z, w16, w64, FitsSigned}
+use Rattle.std.proofs.Common.{◌≡◌, ℤ, Some, Result, Ok, Err, sym, ap, subst, ◌∙◌, rules, to_z, of_z, w16, w64, FitsSigned}
 use Rattle.ig_wire.specs.declared.ask.AskFault.{AskFault}
 use Rattle.ig_wire.specs.Operations.{operation_at}
 use Rattle.ig_fields.specs.AskAnswers.{AnswersAs}
@@ -50,9 +50,9 @@ pub returns-in-Ok-clause-asked : goal.returns-in-Ok-clause-asked
 returns-in-Ok-clause-asked c =
     let code : FitsSigned w16 c.read_ask-code.result.0 = search (rules, c.read_ask-code.type_inv) in
     let id : FitsSigned w64 c.read_ask-code.result.1 = search (rules, c.read_ask-code.type_inv) in
-    subst (λ (e : Result Request AskFault). AnswersAs e c.read_fields.result)
+    subst (λ (e : Result Request AskFault). AnswersAs e (Ok c.in-Ok.request))
     (sym (row_served c.args.version c.args.body.now c.read_ask-code.result.0 c.in-Some.operation (head_in c.args.body.now c.read_ask-code.result.0 c.read_ask-code.result.1 code id c.read_ask-code.ensures.found).0 (search (rules, c.of.ensures, c.in-Some.is)) (search (rules, c.since.ensures, c.is_up_to.ensures, c.if-not-is_up_to.false))))
-    c.read_fields.ensures.asked
+    c.in-Ok.ensures.asked
 
 pub returns-in-Err-clause-id : goal.returns-in-Err-clause-id
 returns-in-Err-clause-id c =
@@ -65,6 +65,6 @@ pub returns-in-Err-clause-asked : goal.returns-in-Err-clause-asked
 returns-in-Err-clause-asked c =
     let code : FitsSigned w16 c.read_ask-code.result.0 = search (rules, c.read_ask-code.type_inv) in
     let id : FitsSigned w64 c.read_ask-code.result.1 = search (rules, c.read_ask-code.type_inv) in
-    subst (λ (e : Result Request AskFault). AnswersAs e c.read_fields.result)
+    subst (λ (e : Result Request AskFault). AnswersAs e (Err c.in-Err.fault))
     (sym (row_served c.args.version c.args.body.now c.read_ask-code.result.0 c.in-Some.operation (head_in c.args.body.now c.read_ask-code.result.0 c.read_ask-code.result.1 code id c.read_ask-code.ensures.found).0 (search (rules, c.of.ensures, c.in-Some.is)) (search (rules, c.since.ensures, c.is_up_to.ensures, c.if-not-is_up_to.false))))
-    c.read_fields.ensures.asked
+    c.in-Err.ensures.asked

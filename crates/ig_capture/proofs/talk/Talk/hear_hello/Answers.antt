@@ -3,7 +3,7 @@ use Rattle.ig_capture.proofs.TurnLemmas.{hello_wrong, hello_heard}
 use Rattle.ig_capture.proofs.talk.Talk.hear_hello.Goals as goal
 
 pub returns-then-not-is_hello : goal.returns-then-not-is_hello
-returns-then-not-is_hello c = hello_wrong _ _ _ c.self.view_is c.args.place c.args.body.now (sym c.is_hello.ensures ∙ c.if-not-is_hello.true)
+returns-then-not-is_hello c = hello_wrong c.args.self.now c.args.place c.args.body.now (sym c.is_hello.ensures ∙ c.if-not-is_hello.true)
 
 pub returns : goal.returns
 returns c =
