@@ -1,6 +1,8 @@
 -- The texts of messages, by what was read.
-use Rattle.std.proofs.Common.{◌≡◌, ◌≢◌, ℕ, zero, suc, ◌+◌, ◌-◌, ◌<◌, ◌≤◌, ℤ, Bool, true, false, List, [], ◌∷◌, ◌++◌, length, drop, Option, Some, None, Result, Ok, Err, refl, sym, ap, subst, ◌∙◌, arith, append_assoc}
+use Rattle.std.proofs.Common.{◌≡◌, ◌≢◌, ℕ, zero, suc, ◌+◌, ◌-◌, ◌<◌, ◌≤◌, ℤ, Bool, true, false, List, [], ◌∷◌, ◌++◌, length, drop, Option, Some, None, Result, Ok, Err, OnOk, refl, sym, ap, subst, ◌∙◌, arith, append_assoc}
 use Rattle.std.proofs.lemmas.List.{length-drop}
+use Rattle.std.specs.Prelude.{codes}
+use Rattle.ig_base.specs.declared.NodeId.{NodeId}
 use Rattle.ig_value.specs.Part.{i64}
 use Rattle.ig_frame.specs.Streams.{place_of}
 use Rattle.ig_wire.specs.Fields.{frame_place, in_frame}
@@ -9,6 +11,7 @@ use Rattle.ig_wire.specs.HelloReplies.{hello_reply_of}
 use Rattle.ig_wire.specs.declared.version.Version.{Version}
 use Rattle.ig_wire.specs.declared.operation.Operation.{Operation}
 use Rattle.ig_wire.specs.declared.hello_reply.HelloReply.{HelloReply}
+use Rattle.ig_wire.specs.declared.hello_reply.HelloReply.TheVariants.{Accepted}
 use Rattle.ig_wire.specs.declared.head.Fault.{Fault}
 use Rattle.ig_wire.specs.declared.head.ReplyHead.{ReplyHead}
 use Rattle.ig_wire.specs.declared.ask.AskFault.{AskFault}
@@ -19,7 +22,7 @@ use Rattle.ig_caches.specs.declared.call.Call.TheVariants as call
 use Rattle.ig_caches.specs.declared.request.Request.{Request}
 use Rattle.ig_caches.specs.declared.request.Request.TheVariants.{Run, Scan, NextPage, Close}
 use Rattle.ig_deals.specs.Asks.{id_in, operation_in, request_in}
-use Rattle.ig_text.specs.Tokens.{scalar_text}
+use Rattle.ig_text.specs.Tokens.{scalar_text, uuid_text}
 use Rattle.ig_lines.specs.declared.line.LineAsk.TheVariants as asks
 use Rattle.ig_lines.specs.Arguments.{space}
 use Rattle.ig_lines.specs.ShownText.{FaultText}
@@ -93,6 +96,12 @@ other_ask (NextPage cursor) never = refl
 other_ask (Close resource) never = refl
 
 -- ---- replies
+
+-- the node that is told, after the word
+pub node_appended : {T E : Type 0} (r : Result T E) (node : NodeId) (old one new : List ℕ) → one ≡ old ++ codes "ok " → OnOk r (new ≡ one ++ uuid_text node)
+    → OnOk r (new ≡ old ++ accepted_text (Accepted (Some node)))
+node_appended (Ok x) node old one new first second = second ∙ ap (λ (l : List ℕ). l ++ uuid_text node) first ∙ append_assoc old (codes "ok ") (uuid_text node)
+node_appended (Err e) node old one new first second = second
 
 -- one that doesn't read, and one that does
 pub greeted_well : (talk : Talk) (v : Version) (place : ℕ) (body : List ℕ) (reply : HelloReply) → hello_reply_of v body ≡ Ok reply

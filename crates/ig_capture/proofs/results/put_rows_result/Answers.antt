@@ -19,7 +19,7 @@ returns-in_ok-write_shown-in-Ok c =
     let same : to_z w16 (of_z w16 c.code.result) ≡ c.code.result = search rules in
     let reads : ShowsRow (row_at result_of (to_z w16 (of_z w16 c.code.result))) c.args.body.now c.args.at (Ok c.in-Ok.shown) = c.in-Ok.ensures.reads in
     rows_shown c.args.operation c.args.place c.args.body.now c.args.at c.in-Ok.shown c.args.text.now c.write_shown.new.out
-    (subst (λ (k : ℤ). ShowsRow (row_at result_of k) c.args.body.now c.args.at (Ok c.in-Ok.shown)) (same ∙ c.code.ensures) reads) c.in_ok-write_shown.ensures.ok
+    (subst (λ (k : ℤ). ShowsRow (row_at result_of k) c.args.body.now c.args.at (Ok c.in-Ok.shown)) (same ∙ c.code.ensures) reads) c.in_ok-write_shown-in-Ok.ensures.ok
 
 pub returns-in-Err : goal.returns-in-Err
 returns-in-Err c =

@@ -12,5 +12,5 @@ returns-in-Err c =
 
 pub returns : goal.returns
 returns c =
-    greeting_heard _ _ _ c.self.view_is c.args.version c.args.place c.args.body.now c.in-Ok.reply c.phase_after.result c.args.text.now c.put_greeting.new.text
-    (sym c.accepts_unspoken.ensures ∙ c.if-accepts_unspoken.false) c.in-Ok.ensures c.phase_after.ensures c.requires.empty c.in_ok-put_greeting.ensures
+    greeting_heard _ _ _ c.self.view_is c.args.version c.args.place c.args.body.now c.in-Ok.reply c.phase_after-self-inside.result c.args.text.now c.put_greeting.new.text
+    (sym c.accepts_unspoken.ensures ∙ c.if-accepts_unspoken.false) c.in-Ok.ensures c.phase_after-self-inside.ensures c.requires.empty c.in_ok-put_greeting.ensures
