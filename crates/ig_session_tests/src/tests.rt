@@ -1,9 +1,11 @@
-ghost use Rattle.std.specs.Prelude.{◌<◌};
+ghost use Rattle.std.specs.Prelude.{◌≡◌, ◌≢◌, ◌<◌, ℕ, true, [], length, IfOk, IfSome, IsSome};
+ghost use Rattle.ig_caches.specs.IsRunnable.{IsRunnable};
+ghost use Rattle.ig_session.specs.Awaiting.{awaited_at};
 
-use ig_base::{NoMemory, Octets, Text};
-use ig_caches::Caches;
+use ig_base::{Items, NoMemory, NoRoom, Octets, Text};
+use ig_caches::{Answer, Caches, Call, Exec, Outcome};
 use ig_link::{MemLink, ReadStep, WriteStep};
-use ig_session::{Alone, SessionCfg, SessionEnd, serve_link};
+use ig_session::{Ahead, Alone, Session, SessionCfg, SessionEnd, Step, serve_link};
 use ig_wire::{HelloFault, Version};
 use std::alloc::Global;
 use std::test::Fail;
@@ -154,5 +156,251 @@ fn whole_frames_are_answered_before_the_next_read(rt: HostRuntime) -> Result<(),
     let end = serve_link(rt.alloc(), &mut caller, &mut link, &CFG);
     assert_eq!(rt; end, SessionEnd::Ended);
     assert!(rt; link.written() == Some(&SCANNED[..]));
+    Ok(())
+}
+
+// ---- sessions step by step
+
+/// A session that was fed this input. `None` where it is long.
+fn session_with(alloc: Global, input: &[u8]) -> Result<Option<Session>, NoMemory>
+    ensures { IfOk result (λ made. IfSome made (λ session. session.out ≡ [])) }
+{
+    if input.len() > 1_000_000 {
+        return Ok(None);
+    }
+    let mut session = Session::new(alloc, CFG)?;
+    session.feed(input)?;
+    Ok(Some(session))
+}
+
+/// Takes away all that waits, and adds it to the output. Returns in how many pieces it is shown.
+fn write(session: &mut Session, output: &mut Octets) -> Result<u32, NoMemory>
+    ensures { session.new.out ≡ session.old.out }
+{
+    'pieces: for piece in 0..1_000 {
+        let waiting = session.waiting();
+        if waiting.is_empty() {
+            return Ok(piece);
+        }
+        let count = waiting.len();
+        output.append(waiting)?;
+        session.gone(count);
+    }
+    Ok(1_000)
+}
+
+/// Runs the only call that is out, or has no memory for it, and gives the answer to the session.
+fn run(session: &mut Session, caches: &mut Caches, call: Call, lacks: bool) -> Result<(), NoMemory>
+    requires out { length session.old.out ≡ 1 }
+    requires runnable { IsRunnable call }
+    ensures { IfOk result (λ done. session.new.out ≡ []) }
+{
+    if lacks {
+        return session.answer(Err(NoRoom { back: call }));
+    }
+    session.answer(caches.run(call))
+}
+
+/// Does what comes next in a session, and writes what waits then. Returns in how many pieces it is shown.
+fn go_on(
+    session: &mut Session,
+    caches: &mut Caches,
+    lacks: bool,
+    output: &mut Octets,
+) -> Result<u32, NoMemory>
+    requires { session.old.out ≡ [] }
+    ensures { IfOk result (λ pieces. session.new.out ≡ []) }
+{
+    match session.next_request()? {
+        Step::Run(call) => {
+            run(session, caches, call, lacks)?;
+            write(session, output)
+        }
+        Step::Out => write(session, output),
+        Step::More { .. } => Ok(0),
+        Step::Stop(_) => Ok(0),
+    }
+}
+
+/// In how many pieces each of the first three replies of a session is shown, and how many bytes they have.
+fn pieces_of(
+    alloc: Global,
+    session: &mut Session,
+    caches: &mut Caches,
+    lacks: bool,
+) -> Result<([u32; 3], usize), NoMemory>
+    requires { session.old.out ≡ [] }
+{
+    let mut output = Octets::empty(alloc);
+    let hello = go_on(session, caches, lacks, &mut output)?;
+    let put = go_on(session, caches, lacks, &mut output)?;
+    let get = go_on(session, caches, lacks, &mut output)?;
+    Ok(([hello, put, get], output.len()))
+}
+
+/// The same of a session over this input, with the one cache `main`.
+fn pieces_over(
+    alloc: Global,
+    input: &[u8],
+    lacks: bool,
+) -> Result<Option<([u32; 3], usize)>, Fail> {
+    let mut caches = caches(alloc)?;
+    let Some(mut session) = session_with(alloc, input)? else {
+        return Ok(None);
+    };
+    let pieces = pieces_of(alloc, &mut session, &mut caches, lacks)?;
+    Ok(Some(pieces))
+}
+
+/// The letters of a long text.
+const LETTERS: u32 = 200_000;
+
+/// A hello, a put of a long text under int 1, and a get of it.
+fn long_input(alloc: Global) -> Result<Octets, NoMemory> {
+    let text = vec![in alloc; b'a'; LETTERS as usize]?;
+    let mut input = Octets::empty(alloc);
+    input.append(&HELLO_AND_PUT[..12])?;
+    input.append(&(LETTERS + 25).to_le_bytes())?;
+    input.append(&HELLO_AND_PUT[16..36])?;
+    input.push(9)?;
+    input.append(&LETTERS.to_le_bytes())?;
+    input.append(text.as_slice())?;
+    input.append(&[20, 0, 0, 0, 0xE8, 3])?;
+    input.append(&HELLO_AND_PUT[18..36])?;
+    Ok(input)
+}
+
+#[test]
+fn long_replies_are_shown_in_pieces(rt: HostRuntime) -> Result<(), Fail> {
+    let input = long_input(rt.alloc())?;
+    let pieces = pieces_over(rt.alloc(), input.as_slice(), false)?;
+    assert_eq!(rt; pieces, Some(([1, 1, 4], 5 + 16 + 200_021)));
+    Ok(())
+}
+
+/// Where the caller had no memory for a call, the reply says so.
+#[test]
+fn a_call_without_memory_is_replied(rt: HostRuntime) -> Result<(), Fail> {
+    let pieces = pieces_over(rt.alloc(), &HELLO_AND_PUT, true)?;
+    assert_eq!(rt; pieces, Some(([1, 1, 0], 5 + 30)));
+    Ok(())
+}
+
+// ---- calls that are answered in any order
+
+/// Whether the next call is handed out, under this number.
+fn hands_out(session: &mut Session, nth: u64) -> Result<bool, NoMemory>
+    ensures is_out { IfOk result (λ yes. yes ≡ true → IsSome (awaited_at session.new.out nth)) }
+    ensures others { IfOk result (λ yes. (n : ℕ) → IsSome (awaited_at session.old.out n)
+        → IsSome (awaited_at session.new.out n)) }
+{
+    let Ahead::Run { nth: next, .. } = session.ahead(4)? else {
+        return Ok(false);
+    };
+    Ok(next == nth)
+}
+
+/// Whether `ahead` answers so: 'w' for `Wait`, 'o' for `Out`, 'm' for `More`.
+fn answers(session: &mut Session, word: u8) -> Result<bool, NoMemory>
+    ensures { IfOk result (λ yes. (n : ℕ) → IsSome (awaited_at session.old.out n)
+        → IsSome (awaited_at session.new.out n)) }
+{
+    Ok(match session.ahead(4)? {
+        Ahead::Wait => word == b'w',
+        Ahead::Out => word == b'o',
+        Ahead::More { .. } => word == b'm',
+        Ahead::Run { .. } | Ahead::Stop(_) => false,
+    })
+}
+
+/// Gives the answer to a call that is out, and writes the reply.
+fn answer(
+    session: &mut Session,
+    nth: u64,
+    outcome: Outcome,
+    output: &mut Octets,
+) -> Result<(), NoMemory>
+    requires { IsSome (awaited_at session.old.out nth) }
+    ensures { IfOk result (λ done. (n : ℕ) → n ≢ nth → IsSome (awaited_at session.old.out n)
+        → IsSome (awaited_at session.new.out n)) }
+{
+    session.answer_nth(nth, Ok(Answer { minor: 0, outcome }))?;
+    write(session, output)?;
+    Ok(())
+}
+
+/// Answers the second of two calls first, where a scan waits for both. Returns false where a step is another one.
+fn answer_two(session: &mut Session, output: &mut Octets) -> Result<bool, NoMemory> {
+    if !hands_out(session, 0)? {
+        return Ok(false);
+    }
+    if !hands_out(session, 1)? {
+        return Ok(false);
+    }
+    if !answers(session, b'w')? {
+        return Ok(false);
+    }
+    answer(session, 1, Outcome::Done, output)?;
+    if !answers(session, b'w')? {
+        return Ok(false);
+    }
+    answer(session, 0, Outcome::Done, output)?;
+    Ok(true)
+}
+
+/// Answers the scan that comes next, with no rows. Returns false where a step is another one.
+fn answer_scan(
+    alloc: Global,
+    session: &mut Session,
+    output: &mut Octets,
+) -> Result<bool, NoMemory> {
+    if !hands_out(session, 2)? {
+        return Ok(false);
+    }
+    if !answers(session, b'w')? {
+        return Ok(false);
+    }
+    answer(
+        session,
+        2,
+        Outcome::Pairs(Items::new(Vec::new(alloc))),
+        output,
+    )?;
+    answers(session, b'm')
+}
+
+/// What a session writes whose second call is answered first. `None` where a step is another one.
+fn in_any_order(alloc: Global) -> Result<Option<Octets>, NoMemory> {
+    let Some(mut session) = session_with(alloc, &TWO_PUTS_AND_SCAN)? else {
+        return Ok(None);
+    };
+    let mut output = Octets::empty(alloc);
+    if !answers(&mut session, b'o')? {
+        return Ok(None);
+    }
+    write(&mut session, &mut output)?;
+    if !answer_two(&mut session, &mut output)? {
+        return Ok(None);
+    }
+    if !answer_scan(alloc, &mut session, &mut output)? {
+        return Ok(None);
+    }
+    Ok(Some(output))
+}
+
+/// The replies to the puts of that session in the order of their answers, and an empty page.
+const IN_ANY_ORDER: [u8; 66] = [
+    1, 0, 0, 0, 1, 12, 0, 0, 0, 2, 0, 0, 0, 0, 0, 0, 0, 0, 0, 0, 0, 12, 0, 0, 0, 1, 0, 0, 0, 0, 0,
+    0, 0, 0, 0, 0, 0, 25, 0, 0, 0, 3, 0, 0, 0, 0, 0, 0, 0, 0, 0, 0, 0, 1, 0, 0, 0, 0, 0, 0, 0, 0,
+    0, 0, 0, 0,
+];
+
+#[test]
+fn replies_stand_in_the_order_of_answers(rt: HostRuntime) -> Result<(), Fail> {
+    let Some(output) = in_any_order(rt.alloc())? else {
+        assert!(rt; false);
+        return Ok(());
+    };
+    assert_eq!(rt; output.as_slice(), &IN_ANY_ORDER[..]);
     Ok(())
 }
