@@ -1,2 +1,4 @@
 pub mod WordsLemmas
 pub mod PlainLemmas
+pub mod DecodeLemmas
+pub mod DecodeStepLemmas

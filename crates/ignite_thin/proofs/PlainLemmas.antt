@@ -15,7 +15,7 @@ use Rattle.ig_session.specs.Serving.{Served}
 use Rattle.ig_session.specs.declared.caller.Alone.{Alone}
 use Rattle.ignite_thin.specs.Words.{pipe_names}
 use Rattle.ignite_thin.specs.Statuses.{status_of, status_of_start}
-use Rattle.ignite_thin.specs.Plain.{one_node, PipeRuns, IsUsage, RunsPipe, RunsPlain}
+use Rattle.ignite_thin.specs.Plain.{one_node, PipeRuns, IsUsage, RunsPipe, RunsPipeWords}
 
 -- a session that ended well, or ran out of memory, has this status
 status_at : (end : SessionEnd) (status : ℕ) → status ≡ status_of end → (end ≡ ends.Ended) ⊎ (end ≡ ends.NoMemory) → (status ≡ 0) ⊎ (status ≡ 5)
@@ -71,16 +71,16 @@ pipe_none names source sink = record {
 }
 
 pub named : (words names : List (List ℕ)) (source source' : SourceState) (sink sink' : SinkState) (status : ℕ) → Some names ≡ pipe_names words
-    → PipeRuns names source source' sink sink' status → RunsPlain words source source' sink sink' status
+    → PipeRuns names source source' sink sink' status → RunsPipeWords words source source' sink sink' status
 named words names source source' sink sink' status e runs = subst (λ (n : Option (List (List ℕ))). RunsPipe n source source' sink sink' status) e (inl runs)
 
 -- names with which no caches start are no command
-refused : (words names : List (List ℕ)) (source : SourceState) (sink : SinkState) → Some names ≡ pipe_names words → ¬ (CanStart names) → RunsPlain words source source sink sink 1
+refused : (words names : List (List ℕ)) (source : SourceState) (sink : SinkState) → Some names ≡ pipe_names words → ¬ (CanStart names) → RunsPipeWords words source source sink sink 1
 refused words names source sink e cannot =
     subst (λ (n : Option (List (List ℕ))). RunsPipe n source source sink sink 1) e (inr (cannot, record { status_is = refl; source_is = refl; sink_is = refl }))
 
 -- no caches started: for lack of memory, or since the names are refused
-pub not_started : (words names : List (List ℕ)) (source : SourceState) (sink : SinkState) (f : StartFault) → Some names ≡ pipe_names words → IsStartFault names f → RunsPlain words source source sink sink (status_of_start f)
+pub not_started : (words names : List (List ℕ)) (source : SourceState) (sink : SinkState) (f : StartFault) → Some names ≡ pipe_names words → IsStartFault names f → RunsPipeWords words source source sink sink (status_of_start f)
 not_started words names source sink fault.TooMany e is = refused words names source sink e (λ can. omega (arith, is, can.few))
 not_started words names source sink (fault.Empty at) e is = refused words names source sink e (λ can. can.no_empty at is.1.here)
 not_started words names source sink (fault.Taken at) e is = refused words names source sink e (λ can. can.distinct at is.2.here)

@@ -1,5 +1,5 @@
 -- What a command over a source and a sink does, by its words.
-use Rattle.std.specs.Prelude.{◌≡◌, ◌≢◌, ◌⊎◌, ℕ, true, List, [], ◌∷◌, Option, None, Some}
+use Rattle.std.specs.Prelude.{◌≡◌, ◌≢◌, ◌⊎◌, ℕ, Bool, true, false, List, [], ◌∷◌, Option, None, Some}
 use Rattle.ig_base.specs.declared.entry.Entry.{Entry}
 use Rattle.ig_base.specs.Frames.{client, Begins}
 use Rattle.ig_link.specs.States.{SourceState, SinkState, Rose, SourceAdvances, SinkAdvances}
@@ -13,7 +13,8 @@ use Rattle.ig_deals.specs.declared.end.SessionEnd.{SessionEnd}
 use Rattle.ig_deals.specs.declared.end.SessionEnd.TheVariants as ends
 use Rattle.ig_deals.specs.Serves.{IsOpen, Serves}
 use Rattle.ig_session.specs.Serving.{IsCaused}
-use Rattle.ignite_thin.specs.Words.{pipe_names}
+use Rattle.ignite_thin.specs.Words.{pipe_names, is_decode}
+use Rattle.ignite_thin.specs.Decodes.{RunsDecode}
 use Rattle.ignite_thin.specs.Statuses.{status_of}
 
 -- node 0 of 1, with 1,024 partitions a cache
@@ -57,5 +58,13 @@ RunsPipe (Some names) source source' sink sink' status =
     PipeRuns names source source' sink sink' status ⊎ (¬ (CanStart names) × IsUsage source source' sink sink' status)
 
 -- the same, by the words
+abbrev pub RunsPipeWords : List (List ℕ) → SourceState → SourceState → SinkState → SinkState → ℕ → Type 0
+RunsPipeWords words source source' sink sink' status = RunsPipe (pipe_names words) source source' sink sink' status
+
+-- `decode`, or else what `pipe` does
+abbrev pub RunsCommand : Bool → List (List ℕ) → SourceState → SourceState → SinkState → SinkState → ℕ → Type 0
+RunsCommand true words source source' sink sink' status = RunsDecode source source' sink sink' status
+RunsCommand false words source source' sink sink' status = RunsPipeWords words source source' sink sink' status
+
 abbrev pub RunsPlain : List (List ℕ) → SourceState → SourceState → SinkState → SinkState → ℕ → Type 0
-RunsPlain words source source' sink sink' status = RunsPipe (pipe_names words) source source' sink sink' status
+RunsPlain words source source' sink sink' status = RunsCommand (is_decode words) words source source' sink sink' status

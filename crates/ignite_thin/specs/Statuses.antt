@@ -4,6 +4,8 @@ use Rattle.ig_caches.specs.declared.fault.StartFault.{StartFault}
 use Rattle.ig_caches.specs.declared.fault.StartFault.TheVariants as fault
 use Rattle.ig_deals.specs.declared.end.SessionEnd.{SessionEnd}
 use Rattle.ig_deals.specs.declared.end.SessionEnd.TheVariants as ends
+use Rattle.ignite_thin.specs.declared.decode_end.DecodeEnd.{DecodeEnd}
+use Rattle.ignite_thin.specs.declared.decode_end.DecodeEnd.TheVariants as decode
 
 -- the status that says how a session ended
 abbrev pub status_of : SessionEnd → ℕ
@@ -15,6 +17,15 @@ status_of ends.ReadFault = 2
 status_of ends.WriteFault = 3
 status_of ends.ByteLimit = 6
 status_of ends.NoMemory = 5
+
+-- the status that says how `decode` ended
+abbrev pub status_of_decode : DecodeEnd → ℕ
+status_of_decode decode.Ended = 0
+status_of_decode decode.Malformed = 4
+status_of_decode decode.ReadFault = 2
+status_of_decode decode.WriteFault = 3
+status_of_decode decode.ByteLimit = 6
+status_of_decode decode.NoMemory = 5
 
 -- the status that says why no caches started
 abbrev pub status_of_start : StartFault → ℕ

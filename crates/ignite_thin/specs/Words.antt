@@ -12,6 +12,11 @@ is_name (first ∷ name) = not (first == 45)
 abbrev pub are_names : List (List ℕ) → Bool
 are_names names = nat_lt 0 (length names) && (nat_le (length names) 64 && list_all is_name names)
 
+-- the one word is `decode`
+abbrev pub is_decode : List (List ℕ) → Bool
+is_decode (command ∷ []) = bytes_eq command (codes "decode")
+is_decode _ = false
+
 -- the names in `pipe NAME ..`, where the words are these
 abbrev pub pipe_names : List (List ℕ) → Option (List (List ℕ))
 pipe_names [] = None

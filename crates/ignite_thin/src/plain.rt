@@ -1,10 +1,11 @@
-//! The commands that run to their end without waiting for other threads. Today that is `pipe`.
+//! The commands that run to their end without waiting for other threads: `pipe` and `decode`.
 
 ghost use Rattle.std.specs.Prelude.{◌≡◌, map, string_bytes, IfOk};
-ghost use Rattle.ignite_thin.specs.Plain.{RunsPlain};
+ghost use Rattle.ignite_thin.specs.Plain.{RunsPipeWords, RunsPlain};
 
-use crate::statuses::{NO_MEMORY, USAGE, end_status, start_status};
-use crate::words::pipe_words;
+use crate::decode::decode;
+use crate::statuses::{NO_MEMORY, USAGE, decode_status, end_status, start_status};
+use crate::words::{is_decode, pipe_words};
 use ig_base::{NoMemory, Text};
 use ig_link::{Sink, Source};
 use ig_session::{Alone, SessionCfg, serve_ends};
@@ -32,17 +33,9 @@ fn names_of(alloc: Global, words: &[String]) -> Result<Vec<Text>, NoMemory>
     Ok(names)
 }
 
-/// Runs the command that the words name over a source and a sink, and returns the program's status.
-///
-/// `pipe NAME ..` serves one session with the caches of these names, and its status says how the session
-/// ended. Words that are no command leave the source and the sink as they were, with status 1.
-pub fn run_plain<S: Source, K: Sink>(
-    alloc: Global,
-    words: &[String],
-    source: &mut S,
-    sink: &mut K,
-) -> u8
-    ensures { RunsPlain (map string_bytes words.now) (S.source source.old) (S.source source.new)
+/// Serves one session with the caches of the names in `pipe NAME ..`.
+fn pipe<S: Source, K: Sink>(alloc: Global, words: &[String], source: &mut S, sink: &mut K) -> u8
+    ensures { RunsPipeWords (map string_bytes words.now) (S.source source.old) (S.source source.new)
         (K.sink sink.old) (K.sink sink.new) result }
 {
     let Some(names) = pipe_words(words) else {
@@ -58,4 +51,24 @@ pub fn run_plain<S: Source, K: Sink>(
         }
         Err(fault) => start_status(fault),
     }
+}
+
+/// Runs the command that the words name over a source and a sink, and returns the program's status.
+///
+/// `pipe NAME ..` serves one session with the caches of these names, and its status says how the session
+/// ended. `decode` writes the text of the capture that the source gives. Words that are no command leave
+/// the source and the sink as they were, with status 1.
+pub fn run_plain<S: Source, K: Sink>(
+    alloc: Global,
+    words: &[String],
+    source: &mut S,
+    sink: &mut K,
+) -> u8
+    ensures { RunsPlain (map string_bytes words.now) (S.source source.old) (S.source source.new)
+        (K.sink sink.old) (K.sink sink.new) result }
+{
+    if is_decode(words) {
+        return decode_status(decode(alloc, source, sink));
+    }
+    pipe(alloc, words, source, sink)
 }

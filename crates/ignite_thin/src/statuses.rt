@@ -1,13 +1,15 @@
 //! The statuses that the program ends with, and what each of them says.
 
 ghost use Rattle.std.specs.Prelude.{◌≡◌, ◌≤◌, ◌↔◌, IsSome};
-ghost use Rattle.ignite_thin.specs.Statuses.{status_of, status_of_start};
+ghost use Rattle.ignite_thin.specs.Statuses.{status_of, status_of_decode, status_of_start};
 
+use crate::decode_end::DecodeEnd;
 use ig_caches::StartFault;
 use ig_session::SessionEnd;
 use std::fmt;
 
-/// The input ended at a frame boundary, after a hello that was accepted.
+/// The input ended well: of a session at a frame boundary, after a hello that was accepted; or a capture
+/// of which nothing is malformed.
 pub const ENDED: u8 = 0;
 
 /// The words are no command. Nothing was read or written.
@@ -19,7 +21,8 @@ pub const INPUT_FAILED: u8 = 2;
 /// The output failed.
 pub const OUTPUT_FAILED: u8 = 3;
 
-/// The input ended elsewhere, a length was out of range or the hello was refused.
+/// The input of a session ended elsewhere, a length was out of range or the hello was refused; or
+/// something in a capture is malformed.
 pub const BAD_INPUT: u8 = 4;
 
 /// Out of memory.
@@ -36,6 +39,20 @@ pub fn start_status(fault: StartFault) -> u8
         StartFault::TooMany => USAGE,
         StartFault::Empty { .. } | StartFault::Taken { .. } => USAGE,
         StartFault::NoMemory => NO_MEMORY,
+    }
+}
+
+/// The status that says how `decode` ended.
+pub fn decode_status(end: DecodeEnd) -> u8
+    ensures { result ≡ status_of_decode end }
+{
+    match end {
+        DecodeEnd::Ended => ENDED,
+        DecodeEnd::Malformed => BAD_INPUT,
+        DecodeEnd::ReadFault => INPUT_FAILED,
+        DecodeEnd::WriteFault => OUTPUT_FAILED,
+        DecodeEnd::ByteLimit => BYTE_LIMIT,
+        DecodeEnd::NoMemory => NO_MEMORY,
     }
 }
 
@@ -59,13 +76,16 @@ pub fn meaning(status: u8) -> Option<&'static str>
     ensures { IsSome result ↔ (status ≤ 6) }
 {
     Some(match status {
-        ENDED => "the input ended at a frame boundary, after a hello that was accepted",
+        ENDED => {
+            "the input ended at a frame boundary, after a hello that was accepted, \
+             or nothing in the capture is malformed"
+        }
         USAGE => "the words are no command",
         INPUT_FAILED => "the input failed",
         OUTPUT_FAILED => "the output failed",
         BAD_INPUT => {
             "the input was empty or ended inside a frame, a length was out of range, \
-             or the hello was refused"
+             the hello was refused, or the capture is malformed"
         }
         NO_MEMORY => "out of memory",
         BYTE_LIMIT => "2^48 bytes were taken",
@@ -90,10 +110,12 @@ impl fmt::Display for Help {
 
 const COMMANDS: &str = "\
 usage: ignite_thin pipe NAME ..
+       ignite_thin decode
        ignite_thin --help | --version
 
 pipe    serves one session over standard input and output, with 1 to 64 caches. A name isn't
         empty and doesn't begin with a hyphen, and no two have the same identifier: the Java
         hash of the name
+decode  reads a capture from standard input, and writes each message in it as a line of text
 
 The exit status:";

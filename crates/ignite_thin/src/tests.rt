@@ -726,3 +726,70 @@ fn other_words_read_and_write_nothing(rt: HostRuntime) -> Result<(), Fail> {
     }
     Ok(())
 }
+
+/// A capture of a put: a hello, its reply, the request and the reply, each in a record of its own.
+const CAPTURE: &str = "49474331 \
+    00 00000000 0C000000 08000000 01 0100 0000 0000 02 \
+    01 00000000 05000000 01000000 01 \
+    00 00000000 1D000000 19000000 E903 0100000000000000 B9053300 00 0301000000 0302000000 \
+    01 00000000 10000000 0C000000 0100000000000000 00000000";
+
+/// Its lines.
+const LINES: &str = "0 > hello 1.0.0\n0 < ok\n0 > 1 put #3343801 int:1 int:2\n0 < 1 done\n";
+
+/// What follows the capture, the line that it adds, and the status.
+static CAPTURE_ENDS: [(&'static str, &'static str, u8); 4] = [
+    ("", "", 0),
+    ("01 00000000 02000000 0C00", "0 < cut 2\n", 0),
+    ("02", "malformed stream 102\n", 4),
+    (
+        "01 00000000 10000000 0C000000 0100000000000000 00000000",
+        "malformed session 0 side server place 21\n",
+        4,
+    ),
+];
+
+/// Whether `decode` writes the lines and then this for the capture with these bytes at its end.
+fn decodes(alloc: Global, more: &str, line: &str, status: u8) -> Result<bool, Fail> {
+    let mut input = bytes(alloc, CAPTURE)?;
+    input.append(bytes(alloc, more)?.as_slice())?;
+    let mut output = Octets::empty(alloc);
+    output.append(LINES.as_bytes())?;
+    output.append(line.as_bytes())?;
+    let run = run_over(alloc, &["decode"], input.as_slice(), false, Vec::new(alloc))?;
+    Ok(run.status == status && run.sink.written() == Some(output.as_slice()))
+}
+
+#[test]
+fn a_capture_has_its_text(rt: HostRuntime) -> Result<(), Fail> {
+    for (more, line, status) in &CAPTURE_ENDS {
+        assert!(rt; decodes(rt.alloc(), more, line, *status)?, "{line}");
+    }
+    Ok(())
+}
+
+#[test]
+fn decode_tells_faults_apart(rt: HostRuntime) -> Result<(), Fail> {
+    let input = bytes(rt.alloc(), CAPTURE)?;
+    let failed = run_over(
+        rt.alloc(),
+        &["decode"],
+        input.as_slice(),
+        true,
+        Vec::new(rt.alloc()),
+    )?;
+    assert!(rt; failed.status == 2 && failed.sink.written() == Some(LINES.as_bytes()));
+    let usage = run_over(
+        rt.alloc(),
+        &["decode", "more"],
+        input.as_slice(),
+        false,
+        Vec::new(rt.alloc()),
+    )?;
+    assert!(rt; usage.status == 1 && usage.source.taken().is_empty());
+    let mut steps = Vec::new(rt.alloc());
+    steps.push(WriteStep::Fault)?;
+    let unwritten = run_over(rt.alloc(), &["decode"], input.as_slice(), false, steps)?;
+    assert!(rt; unwritten.status == 3);
+    Ok(())
+}

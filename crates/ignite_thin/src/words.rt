@@ -3,7 +3,7 @@
 ghost use Rattle.std.specs.Prelude.{◌≡◌, map, string_bytes};
 ghost use Rattle.std.specs.Option.{option_map};
 ghost use Rattle.std.specs.List.{list_all};
-ghost use Rattle.ignite_thin.specs.Words.{is_name, are_names, pipe_names};
+ghost use Rattle.ignite_thin.specs.Words.{is_name, are_names, is_decode, pipe_names};
 
 /// The most caches that `pipe` is given.
 const NAMES: usize = 64;
@@ -36,6 +36,16 @@ fn are_cache_names(words: &[String]) -> bool
         return false;
     }
     each_is_name(words)
+}
+
+/// Whether the one word is `decode`.
+pub fn is_decode(words: &[String]) -> bool
+    ensures { result ≡ is_decode (map string_bytes words.now) }
+{
+    match words {
+        [command] => command.as_str() == "decode",
+        _ => false,
+    }
 }
 
 /// The names of the caches where the words are `pipe NAME ..`, and `None` where they aren't.

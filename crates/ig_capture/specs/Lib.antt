@@ -1,0 +1,14 @@
+pub mod Said
+pub mod Records
+pub mod Operations
+pub mod Requests
+pub mod Talks
+pub mod Answers
+pub mod Sessions
+pub mod EndText
+pub mod Reading
+pub mod CaptureText
+pub mod CaptureLaws
+pub mod Feeds
+pub mod Coded
+pub mod Heads
