@@ -1,8 +1,8 @@
 //! A server of the Apache Ignite thin client protocol.
 //!
 //! `ignite_thin pipe NAME ..` serves one session over standard input and output, and `ignite_thin decode`
-//! shows a capture as text. `main` makes the real
-//! streams, calls `run_plain`, which carries the contract, and says on standard error why it failed.
+//! shows a capture as text. `main` makes the real streams, calls `run_plain`, which carries the contract, and
+//! says on standard error why it failed.
 #![tactic(auto)]
 
 mod decode;
