@@ -110,7 +110,7 @@ accepted_text (Accepted (Some node)) = codes "ok " ++ uuid_text node
 accepted_text (Refused highest text n) = codes "refused " ++ (version_text highest ++ space ∷ quoted text)
 
 abbrev pub phase_after : Version → HelloReply → Phase
-phase_after v (Accepted node) = Talking v
+phase_after v (Accepted told) = Talking v
 phase_after v (Refused highest text n) = Closed
 
 abbrev pub greeted : Talk → Version → ℕ → List ℕ → Result HelloReply ℕ → Step

@@ -124,7 +124,7 @@ ends_as s fin k1 k2 ends.WriteFault is never shows = subst (λ f. EndsTextAs f k
 ends_as s fin k1 k2 ends.ByteLimit is never shows = subst (λ f. EndsTextAs f k1 k2 ends.ByteLimit) (sym is) shows
 ends_as s fin k1 k2 ends.NoMemory is never shows = absurd (never refl)
 
--- a text that was written doesn't end for want of memory
+-- a text that was written doesn't end out of memory
 enough : (text : List ℕ) (k1 k2 : SinkState) (named end : DecodeEnd) → (named ≡ ends.NoMemory → ⊥) → SendsText text k1 k2 named end → end ≡ ends.NoMemory → ⊥
 enough text k1 k2 named end other (inl (written, counts, is)) none = other (sym is ∙ none)
 enough text k1 k2 named end other (inr (first, is)) none = let clash : ends.WriteFault ≡ ends.NoMemory = sym is ∙ none in absurd (cc)
