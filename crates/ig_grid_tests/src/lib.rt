@@ -1,5 +1,0 @@
-//! Tests of `ig_grid` by its public calls. They stand apart, since a crate is proved once more with its tests.
-#![tactic(auto)]
-
-#[cfg(test)]
-mod tests;
